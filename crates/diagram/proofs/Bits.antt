@@ -1,0 +1,88 @@
+-- The number that bits make, the bits of a number, and what stands at a row of a drawn tree.
+-- Assumes nothing.
+use mathlib.Core.Path.{_≡_, refl, sym, ap, ap₂, _∙_}
+use mathlib.Core.Bool.{Bool, true, false, cond}
+use Prim.Native.Nat.{ℕ, zero, suc, _+_, _*_, _-_, _/_, _%_, _^_, _≤_, _<_}
+use native.Mathlib.Nat.{not-suc-le-zero, div-one, add-zero, zero-add}
+use native.Mathlib.Omega.{arith}
+use lib.Dec.{eqb, eqb→eq}
+use lib.Pow.{shr-shr}
+use Rattle.diagram.specs.Lists.{digit, number, bit}
+use Rattle.diagram.specs.Tree.{draw, at}
+use Rattle.diagram.proofs.Bools.{split, to-T}
+use Rattle.diagram.proofs.Numbers.{below-other}
+
+pub digit-le : (b : Bool) → digit b ≤ 1
+digit-le true = omega arith
+digit-le false = omega arith
+
+pub number-lt : (n : ℕ) (a : ℕ → Bool) → number n a < 2 ^ n
+number-lt zero a = omega arith
+number-lt (suc n) a = omega (arith, number-lt n a, digit-le (a n))
+
+pub number-cong : (n : ℕ) (a b : ℕ → Bool) → ((v : ℕ) → v < n → a v ≡ b v) → number n a ≡ number n b
+number-cong zero a b f = refl
+number-cong (suc n) a b f =
+    ap₂ (λ (x : ℕ) (c : Bool). 2 * x + digit c) (number-cong n a b (λ v h. f v (omega arith))) (f n (omega arith))
+
+-- the last bit of a number of n + 1 bits is the number's remainder by 2, and the bits before it are those of its half
+
+pub bit-last : (n x : ℕ) → bit (suc n) n x ≡ eqb (x % 2) 1
+unfolding bit
+bit-last n x = let e : suc n - suc n ≡ 0 = omega arith in rw (e, div-one x)
+
+pub bit-half : (n v x : ℕ) → v < n → bit (suc n) v x ≡ bit n v (x / 2)
+unfolding bit
+bit-half n v x h =
+    let e : suc n - suc v ≡ 1 + (n - suc v) = omega arith in
+    ap (λ (k : ℕ). eqb (x / 2 ^ k % 2) 1) e ∙ ap (λ (y : ℕ). eqb (y % 2) 1) (sym (shr-shr x 1 (n - suc v)))
+
+half-digit : (m : ℕ) (b : Bool) → (2 * m + digit b) / 2 ≡ m
+half-digit m true = omega arith
+half-digit m false = omega arith
+
+rest-digit : (m : ℕ) (b : Bool) → (2 * m + digit b) % 2 ≡ digit b
+rest-digit m true = omega arith
+rest-digit m false = omega arith
+
+eqb-digit : (b : Bool) → eqb (digit b) 1 ≡ b
+eqb-digit true = refl
+eqb-digit false = refl
+
+digit-eqb : (k : ℕ) → k < 2 → digit (eqb k 1) ≡ k
+digit-eqb zero h = refl
+digit-eqb (suc zero) h = refl
+digit-eqb (suc (suc k)) h = absurd (omega arith)
+
+pub bit-number : (n : ℕ) (a : ℕ → Bool) (v : ℕ) → v < n → bit n v (number n a) ≡ a v
+bit-number zero a v h = absurd (not-suc-le-zero h)
+bit-number (suc n) a v h =
+    split (eqb v n)
+    (λ e. rw (eqb→eq v n (to-T e))
+    (bit-last n (number (suc n) a) ∙ ap (λ (k : ℕ). eqb k 1) (rest-digit (number n a) (a n)) ∙ eqb-digit (a n)))
+    (λ e. let k : v < n = below-other v n h e in
+    bit-half n v (number (suc n) a) k ∙ ap (bit n v) (half-digit (number n a) (a n)) ∙ bit-number n a v k)
+
+pub number-bit : (n x : ℕ) → x < 2 ^ n → number n (λ v. bit n v x) ≡ x
+number-bit zero x h = omega arith
+number-bit (suc n) x h =
+    let e : number n (λ v. bit (suc n) v x) ≡ x / 2 =
+    number-cong n (λ v. bit (suc n) v x) (λ v. bit n v (x / 2)) (λ v k. bit-half n v x k) ∙ number-bit n (x / 2) (omega arith) in
+    let l : digit (bit (suc n) n x) ≡ x % 2 = ap digit (bit-last n x) ∙ digit-eqb (x % 2) (omega arith) in
+    rw (e, l) (omega arith)
+
+-- a tree drawn from f has at each row what f gives of the row's number
+
+draw-step : {A : Type 0} (d p s : ℕ) (f : ℕ → A) (a : ℕ → Bool) (c : Bool)
+    → cond c (at (suc p) a (draw d f (2 * s + 1))) (at (suc p) a (draw d f (2 * s))) ≡ at (suc p) a (draw d f (2 * s + digit c))
+draw-step d p s f a true = refl
+draw-step d p s f a false = ap (λ (k : ℕ). at (suc p) a (draw d f k)) (sym (add-zero (2 * s)))
+
+pub at-draw : {A : Type 0} (d p : ℕ) (f : ℕ → A) (a : ℕ → Bool) → at p a (draw d f (number p a)) ≡ f (number (p + d) a)
+at-draw zero p f a = ap (λ (k : ℕ). f (number k a)) (sym (add-zero p))
+at-draw (suc d) p f a =
+    let e : suc p + d ≡ p + suc d = omega arith in
+    draw-step d p (number p a) f a (a p) ∙ at-draw d (suc p) f a ∙ ap (λ (k : ℕ). f (number k a)) e
+
+pub at-drawn : {A : Type 0} (n : ℕ) (f : ℕ → A) (a : ℕ → Bool) → at 0 a (draw n f 0) ≡ f (number n a)
+at-drawn n f a = at-draw n 0 f a ∙ ap (λ (k : ℕ). f (number k a)) (zero-add n)

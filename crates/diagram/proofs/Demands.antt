@@ -1,0 +1,134 @@
+-- Demands 2 and 3 of document 01 for every drawn table and order: kept, whole, right, least, fits.
+-- Assumes nothing.
+use mathlib.Core.Path.{_≡_, sym, ap, _∙_, subst}
+use mathlib.Core.Bool.{Bool, true, false, _&&_}
+use mathlib.Core.List.{List, [], _∷_, map}
+use Prim.Native.Nat.{ℕ, zero, suc, _+_, _≤_, _<_, _^_}
+use native.Mathlib.Nat.{le-refl, le-trans, not-suc-le-zero}
+use native.Mathlib.Omega.{arith}
+use lib.Dec.{T, eqb, ltb, eqb→eq, ltb→lt, nltb→le}
+use lib.ListN.{length, getD, length-map, List·getD-append}
+use lib.Seq.{getD-at}
+use Rattle.diagram.specs.Lists.{upTo, number, index}
+use Rattle.diagram.specs.Tree.{Tree, at, full, inverted}
+use Rattle.diagram.specs.Fill.{Row}
+use Rattle.diagram.specs.Diagram.{Diagram, refers, wellFormed}
+use Rattle.diagram.specs.Network.{network, count}
+use Rattle.diagram.specs.Order.{isOrder, rowUnder}
+use Rattle.diagram.specs.Table.{Table, reordered, filled, filledBit, networkOf, cost, Computes, Solves}
+use Rattle.diagram.specs.Demands.{Kept, Least, FitsFrom}
+use Rattle.diagram.proofs.Bools.{split, to-T, to-not}
+use Rattle.diagram.proofs.Lists.{all-at, getD-map}
+use Rattle.diagram.proofs.Tree.{tree-ext, at-above, inverted-false}
+use Rattle.diagram.proofs.Fill.{fill-length}
+use Rattle.diagram.proofs.Kept.{kept-at}
+use Rattle.diagram.proofs.Reference.{from}
+use Rattle.diagram.proofs.Right.{network-formed, network-gives}
+use Rattle.diagram.proofs.Function.{function, Good, function-gives}
+use Rattle.diagram.proofs.Evaluate.{formed-length, formed-roots, formed-nodes, from-top}
+use Rattle.diagram.proofs.Least.{Reaches, every-at, least-trees}
+use Rattle.diagram.proofs.Numbers.{length-upTo}
+use Rattle.diagram.proofs.Order.{row-of, at-reordered}
+
+getD-upTo : (n j : ℕ) → j < n → getD (upTo n) j 0 ≡ j
+getD-upTo zero j h = absurd (not-suc-le-zero h)
+getD-upTo (suc n) j h =
+    split (ltb j n)
+    (λ e. let k = ltb→lt j n (to-T e) in List·getD-append (upTo n) (n ∷ []) 0 j (omega (arith, length-upTo n)) ∙ getD-upTo n j k)
+    (λ e. let k : j ≡ n = omega (arith, nltb→le j n (to-not e)) in
+    getD-at (upTo n) n [] 0 j (length-upTo n ∙ sym k) ∙ sym k)
+
+module _ (inv : Bool) (t : Table) (order : List ℕ) where
+  pub filled-length : length (filled inv t order) ≡ t .m
+  unfolding filled
+  filled-length =
+      fill-length inv (t .n) (map (reordered t order) (upTo (t .m))) ∙ length-map (upTo (t .m)) (reordered t order) ∙ length-upTo (t .m)
+
+  -- kept: the filled table has every cared row as drawn
+  pub kept : T (isOrder (t .n) order) → Kept inv t order
+  unfolding Kept filledBit filled
+  kept o j r hj hr c =
+      let f₀ = full {A = Row} (record { value = false; care = false }) (t .n) in
+      let fs = map (reordered t order) (upTo (t .m)) in
+      let a = rowUnder (t .n) order r in
+      let found : getD fs j f₀ ≡ reordered t order j =
+      getD-map (reordered t order) (upTo (t .m)) j 0 f₀ (omega (arith, length-upTo (t .m))) ∙ ap (reordered t order) (getD-upTo (t .m) j hj) in
+      let there : at 0 a (getD fs j f₀) ≡ t .row j r = ap (at 0 a) found ∙ at-reordered t order o j r hr in
+      kept-at inv (t .n) fs j f₀ (full false (t .n)) (omega (arith, length-upTo (t .m), length-map (upTo (t .m)) (reordered t order))) 0 a
+      (subst (λ (x : Row). T (x .care)) (sym there) c)
+      ∙ ap (λ (x : Row). x .value) there
+
+  -- whole: 'A fully cared table fills to itself'
+  pub whole : T (isOrder (t .n) order) → ((j r : ℕ) → j < t .m → r < 2 ^ t .n → T (t .row j r .care))
+      → (j r : ℕ) → j < t .m → r < 2 ^ t .n → filledBit inv t order j r ≡ t .row j r .value
+  unfolding Kept
+  whole o cared j r hj hr = kept o j r hj hr (cared j r hj hr)
+
+  -- right: the network is a diagram as section 4 words it, and computes the filled table
+  pub right : Solves inv t order (networkOf inv t order)
+  unfolding networkOf Computes filledBit
+  right =
+      record {
+        formed = subst (λ (m : ℕ). T (wellFormed inv (t .n) m (networkOf inv t order))) filled-length (network-formed inv (t .n) (filled inv t order));
+        computes =
+            λ j r hj hr. network-gives inv (t .n) (filled inv t order) (rowUnder (t .n) order r) j (full false (t .n)) (omega (arith, filled-length));
+      }
+
+  module _ (D : Diagram) (s : Solves inv t order D) where
+    solves-length : length (D .roots) ≡ t .m
+    solves-length = eqb→eq (length (D .roots)) (t .m) (formed-length inv (t .n) (t .m) D (s .formed))
+
+    solves-good : Good inv (t .n) D
+    solves-good = formed-nodes inv (t .n) (t .m) D (s .formed)
+
+    root-from : (j : ℕ) → j < t .m → T (from inv D 0 (getD (D .roots) j 0))
+    root-from j h =
+        from-top inv D (getD (D .roots) j 0)
+        (all-at (refers inv D) (D .roots) (formed-roots inv (t .n) (t .m) D (s .formed)) j 0 (omega (arith, solves-length)))
+
+    -- a root's function is its output's filled function: some drawn row has any bits that the levels may see
+    root-function : T (isOrder (t .n) order) → (j : ℕ) → j < t .m
+        → getD (filled inv t order) j (full false (t .n)) ≡ function inv D (t .n) 0 (getD (D .roots) j 0)
+    unfolding Computes filledBit
+    root-function o j h =
+        let f = getD (filled inv t order) j (full false (t .n)) in
+        let g = function inv D (t .n) 0 (getD (D .roots) j 0) in
+        tree-ext 0 f g
+        (λ a. let r = number (t .n) (λ v. a (index eqb v order)) in
+        let w = row-of (t .n) order o a in
+        let b = rowUnder (t .n) order r in
+        let fine : (q : ℕ) → 0 ≤ q → q < 0 + t .n → b q ≡ a q = λ q _ k. w .1 q (omega arith) in
+        sym (at-above 0 b a f fine) ∙ sym (s .computes j r h (w .0))
+        ∙ function-gives inv (t .n) D solves-good b (t .n) 0 (getD (D .roots) j 0) (t .n) (omega arith) (le-refl (t .n)) (root-from j h)
+        ∙ at-above 0 b a g fine)
+
+    reaches-root : T (isOrder (t .n) order) → (j : ℕ) → j < t .m
+        → Reaches inv D (t .n) 0 (getD (filled inv t order) j (full false (t .n)))
+    reaches-root o j h =
+        record {
+          ref = getD (D .roots) j 0;
+          turned = false;
+          reached = root-from j h;
+          computed = root-function o j h ∙ sym (plain inv (function inv D (t .n) 0 (getD (D .roots) j 0)));
+        }
+      where
+        plain : (i : Bool) (x : Tree Bool (t .n)) → inverted (i && false) x ≡ x
+        plain true x = inverted-false x
+        plain false x = inverted-false x
+
+  -- least: no diagram that uses the order and computes the filled table has fewer nodes
+  pub least : T (isOrder (t .n) order) → Least inv t order (count inv (t .n) (filled inv t order))
+  unfolding Least
+  least o D s =
+      least-trees inv (t .n) D (solves-good D s) (filled inv t order)
+      (every-at (Reaches inv D (t .n) 0) (filled inv t order) (full false (t .n)) (λ j h. reaches-root D s o j (omega (arith, filled-length))))
+
+  -- fits: some such diagram fits the board exactly when the network does
+  pub fits : T (isOrder (t .n) order) → FitsFrom inv t order (count inv (t .n) (filled inv t order))
+  unfolding FitsFrom Least networkOf network count
+  fits o capacity = (λ w. le-trans (least o (w .0) (w .1)) (w .2), λ h. (networkOf inv t order, right, h))
+
+-- the least-nodes theorem in terms of an order's cost
+pub least-cost : (t : Table) (order : List ℕ) → T (isOrder (t .n) order) → Least true t order (cost t order)
+unfolding cost
+least-cost t order o = least true t order o

@@ -1,0 +1,99 @@
+-- The classes of a list of segments are those of the functions seen first that depend on the top variable.
+-- Assumes nothing.
+use mathlib.Core.Path.{_≡_, refl, sym, ap, ap₂, _∙_, subst}
+use mathlib.Core.Bool.{Bool, true, false, not, cond}
+use mathlib.Core.List.{List, [], _∷_, map}
+use mathlib.Core.Logic.{⊎-elim}
+use Prim.Native.Nat.{ℕ, suc}
+use lib.Dec.{T}
+use Rattle.diagram.specs.Lists.{all, keep, has, without, firsts}
+use Rattle.diagram.specs.Tree.{Tree, same}
+use Rattle.diagram.specs.Network.{depends, normal, classes}
+use Rattle.diagram.proofs.Bools.{both-ways, split, to-T, absurd-T, and-T, or-r, or-cases}
+use Rattle.diagram.proofs.Lists.{Equality, all-has, firsts-has, without-none}
+use Rattle.diagram.proofs.Tree.{same-equality, depends-normal, varies}
+use Rattle.diagram.proofs.FirstSeen.{steady-depends, isNew, fresh}
+
+module _ {A : Type 0} where
+  keep-agree : (p q : A → Bool) → ((x : A) → p x ≡ q x) → (xs : List A) → keep p xs ≡ keep q xs
+  keep-agree p q f [] = refl
+  keep-agree p q f (x ∷ xs) = ap₂ (λ (b : Bool) (l : List A). cond b (x ∷ l) l) (f x) (keep-agree p q f xs)
+
+  keep-all : (xs : List A) → keep (λ x. true) xs ≡ xs
+  keep-all [] = refl
+  keep-all (x ∷ xs) = ap (λ (l : List A). x ∷ l) (keep-all xs)
+
+-- those of xs that don't stand in gs
+abbrev less : {A : Type 0} → (A → A → Bool) → List A → List A → List A
+less eq gs xs = keep (λ x. not (has eq x gs)) xs
+
+module _ {A : Type 0} (eq : A → A → Bool) (E : Equality eq) where
+  eq-swap : (x y : A) → eq x y ≡ eq y x
+  eq-swap x y =
+      both-ways (eq x y) (eq y x)
+      (λ t. subst (λ z. T (eq z x)) (E .sound x y t) (E .self x)) (λ t. subst (λ z. T (eq z y)) (E .sound y x t) (E .self y))
+
+  less-more : (n : A) (gs xs : List A) → less eq gs (without eq n xs) ≡ less eq (n ∷ gs) xs
+  less-more n gs [] = refl
+  less-more n gs (x ∷ xs) =
+      rw (eq-swap x n)
+      (split (eq n x) (λ e. rw e (less-more n gs xs))
+      (λ e. rw e (ap (λ (l : List A). cond (not (has eq x gs)) (x ∷ l) l) (less-more n gs xs))))
+
+  -- one that stands in gs already
+  less-again : (n : A) (gs xs : List A) → T (has eq n gs) → less eq (n ∷ gs) xs ≡ less eq gs xs
+  less-again n gs xs t =
+      keep-agree (λ x. not (has eq x (n ∷ gs))) (λ x. not (has eq x gs))
+      (λ x. ap not (both-ways (has eq x (n ∷ gs)) (has eq x gs)
+      (λ h. ⊎-elim (λ s. subst (λ z. T (has eq z gs)) (sym (E .sound x n s)) t) (λ s. s) (or-cases (eq x n) (has eq x gs) h))
+      (λ h. or-r (eq x n) (has eq x gs) h)))
+      xs
+
+  -- one that doesn't stand in xs
+  less-other : (n : A) (gs xs : List A) → has eq n xs ≡ false → less eq (n ∷ gs) xs ≡ less eq gs xs
+  less-other n gs xs e = sym (less-more n gs xs) ∙ ap (less eq gs) (without-none eq E n xs e)
+
+module _ {d : ℕ} (inv : Bool) where
+  -- the classes of the functions that depend
+  abbrev pub listed : List (Tree Bool (suc d)) → List (Tree Bool (suc d))
+  listed ts = map (normal inv) (keep depends ts)
+
+  listed-depends : (ts : List (Tree Bool (suc d))) → T (all depends (listed ts))
+  listed-depends [] = tt
+  listed-depends (t ∷ ts) =
+      split (depends t)
+      (λ e. rw e (and-T (depends (normal inv t)) (all depends (listed ts)) (to-T (depends-normal inv t ∙ e)) (listed-depends ts)))
+      (λ e. rw e (listed-depends ts))
+
+  -- a function that doesn't depend has no class there
+  unlisted : (t : Tree Bool (suc d)) (ts : List (Tree Bool (suc d))) → depends t ≡ false
+      → has same (normal inv t) (firsts same (listed ts)) ≡ false
+  unlisted t ts e =
+      split (has same (normal inv t) (firsts same (listed ts)))
+      (λ h. absurd-T
+      (all-has same same-equality depends (listed ts) (listed-depends ts) (normal inv t)
+      (firsts-has same same-equality (normal inv t) (listed ts) (to-T h)))
+      (depends-normal inv t ∙ e))
+      (λ h. h)
+
+  depends-varies : (t : Tree Bool (suc d)) → depends t ≡ true → varies t ≡ true
+  depends-varies t e = split (varies t) (λ v. v) (λ v. absurd-T (to-T e) (steady-depends t v))
+
+  -- A function that depends is listed once, by its first; one that doesn't has a class that isn't listed.
+  listed-fresh : (gs ts : List (Tree Bool (suc d))) → less same gs (firsts same (listed ts)) ≡ listed (fresh inv gs ts)
+  listed-fresh gs [] = refl
+  listed-fresh gs (t ∷ ts) =
+      let n = normal inv t in
+      let F = firsts same (listed ts) in
+      split (depends t)
+      (λ e. let v = depends-varies t e in
+      split (has same n gs)
+      (λ q. rw (v, e, q) (less-more same same-equality n gs F ∙ less-again same same-equality n gs F (to-T q) ∙ listed-fresh gs ts))
+      (λ q. rw (v, e, q, e) (ap (λ (l : List (Tree Bool (suc d))). n ∷ l) (less-more same same-equality n gs F ∙ listed-fresh (n ∷ gs) ts))))
+      (λ e. split (isNew inv gs t)
+      (λ q. rw (e, q, e) (sym (less-other same same-equality n gs F (unlisted t ts e)) ∙ listed-fresh (n ∷ gs) ts))
+      (λ q. rw (e, q) (listed-fresh gs ts)))
+
+  pub classes-fresh : (ts : List (Tree Bool (suc d))) → classes inv ts ≡ listed (fresh inv [] ts)
+  unfolding classes
+  classes-fresh ts = sym (keep-all (firsts same (listed ts))) ∙ listed-fresh [] ts

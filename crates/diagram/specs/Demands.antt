@@ -1,0 +1,43 @@
+-- Demands 2 and 3 of document 01, as statements about a drawn table and an order.
+-- Assumes nothing.
+use mathlib.Core.Path.{_≡_}
+use mathlib.Core.Bool.{Bool, true}
+use mathlib.Core.List.{List}
+use mathlib.Core.Logic.{_↔_}
+use Prim.Native.Nat.{ℕ, suc, _*_, _≤_, _<_, _^_}
+use lib.Dec.{T, eqb}
+use lib.ListN.{length}
+use Rattle.diagram.specs.Lists.{without}
+use Rattle.diagram.specs.Diagram.{Diagram}
+use Rattle.diagram.specs.Order.{isOrder}
+use Rattle.diagram.specs.Table.{Table, Solves, Fits, filledBit, cost}
+use Rattle.diagram.specs.Sift.{next, pass}
+
+-- demand 2: cared rows as drawn
+unfoldable pub Kept : Bool → Table → List ℕ → Type 0
+Kept inv t order =
+    (j r : ℕ) → j < t .m → r < 2 ^ t .n → T (t .row j r .care) → filledBit inv t order j r ≡ t .row j r .value
+
+-- demand 3, least: every diagram that uses the order and computes the table filled under it has at least c nodes
+unfoldable pub Least : Bool → Table → List ℕ → ℕ → Type 0
+Least inv t order c = (D : Diagram) → Solves inv t order D → c ≤ length (D .nodes)
+
+-- demand 3, fit: some diagram that computes the filled table fits the board exactly when the board has c nodes or more
+unfoldable pub FitsFrom : Bool → Table → List ℕ → ℕ → Type 0
+FitsFrom inv t order c = (capacity : ℕ) → ((D : Diagram) × Solves inv t order D × Fits D capacity) ↔ (c ≤ capacity)
+
+-- an order that differs from another only in the place of v, the others in sequence
+pub record Beside (n v : ℕ) (order other : List ℕ) : Type 0 where
+  pub valid : T (isOrder n other)
+  pub others : without eqb v other ≡ without eqb v order
+
+-- demand 3 after a sift of v that leaves this order: no other place of v is cheaper, whatever diagram is taken there
+unfoldable pub SiftedLeast : Table → ℕ → List ℕ → Type 0
+unfolding Least
+SiftedLeast t v left = (other : List ℕ) → Beside (t .n) v left other → Least true t other (cost t left)
+
+-- demand 3 at every turn of a pass: 'the order just after the k-th sift of a pass is the one the same pass leaves under the limit n × k',
+-- and the variable just sifted is the one that came next before it
+unfoldable pub TurnsLeast : Table → List ℕ → Type 0
+unfolding SiftedLeast
+TurnsLeast t order = (k : ℕ) → k < t .n → SiftedLeast t (next t (pass t (t .n * k) order)) (pass t (t .n * suc k) order .order)

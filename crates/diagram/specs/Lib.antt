@@ -1,0 +1,12 @@
+pub mod Lists
+pub mod Tree
+pub mod Fill
+pub mod Diagram
+pub mod Network
+pub mod Trace
+pub mod Order
+pub mod Table
+pub mod Sift
+pub mod Demands
+pub mod Bound
+pub mod Starred
