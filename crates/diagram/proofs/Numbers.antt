@@ -1,8 +1,8 @@
 -- Numbers by test: what it says that two differ, and the numbers below n.
 -- Assumes nothing.
-use mathlib.Core.Path.{_≡_, refl, sym, subst}
-use mathlib.Core.Bool.{true, false, not}
-use mathlib.Core.List.{List, [], _∷_}
+use mathlib.Core.Path.{_≡_, refl, sym, ap, _∙_, subst}
+use mathlib.Core.Bool.{Bool, true, false, not, _&&_}
+use mathlib.Core.List.{List, [], _∷_, _++_}
 use mathlib.Core.Logic.{_≢_}
 use Prim.Native.Nat.{ℕ, zero, suc, _≤_, _<_}
 use native.Mathlib.Nat.{not-suc-le-zero}
@@ -62,3 +62,30 @@ none-missing n xs d b l v h =
     few n (v ∷ xs) (and-T (not (has eqb v xs)) (distinct eqb xs) (to-not e) d)
     (and-T (ltb v n) (all (λ w. ltb w n) xs) (lt→ltb v n h) b) in
     absurd (omega arith))
+
+-- a test over the numbers below n, one number at a time
+
+pub all-upTo-suc : (p : ℕ → Bool) (n : ℕ) → all p (upTo (suc n)) ≡ all p (upTo n) && p n
+all-upTo-suc p n = all-snoc p (upTo n) n
+  where
+    and-true : (b : Bool) → b && true ≡ b
+    and-true true = refl
+    and-true false = refl
+
+    and-assoc : (a b c : Bool) → a && (b && c) ≡ a && b && c
+    and-assoc true b c = refl
+    and-assoc false b c = refl
+
+    all-snoc : (q : ℕ → Bool) (xs : List ℕ) (x : ℕ) → all q (xs ++ (x ∷ [])) ≡ all q xs && q x
+    all-snoc q [] x = and-true (q x)
+    all-snoc q (y ∷ ys) x = ap (λ (b : Bool). q y && b) (all-snoc q ys x) ∙ and-assoc (q y) (all q ys) (q x)
+
+pub all-upTo-at : (p : ℕ → Bool) (n : ℕ) → T (all p (upTo n)) → (i : ℕ) → i < n → T (p i)
+all-upTo-at p n t i h = all-has eqb eqb-equality p (upTo n) t i (has-upTo i n h)
+
+pub all-upTo-of : (p : ℕ → Bool) (n : ℕ) → ((i : ℕ) → i < n → T (p i)) → T (all p (upTo n))
+all-upTo-of p n f = has-all eqb eqb-equality p (upTo n) (λ i h. f i (upTo-lt i n h))
+
+-- one failure is enough
+pub all-upTo-fails : (p : ℕ → Bool) (n i : ℕ) → i < n → p i ≡ false → all p (upTo n) ≡ false
+all-upTo-fails p n i h e = split (all p (upTo n)) (λ q. absurd-T (all-upTo-at p n (to-T q) i h) e) (λ q. q)

@@ -1,0 +1,88 @@
+-- What an accepted file keeps: each test of section 6's sequence.
+-- Assumes nothing.
+use mathlib.Core.Path.{_≡_, refl, sym, subst}
+use mathlib.Core.Bool.{Bool, true, false, cond, _&&_}
+use mathlib.Core.List.{List}
+use mathlib.Core.Logic.{_≢_}
+use Prim.Native.Nat.{ℕ, zero, suc, _+_, _*_, _%_, _≤_, _<_}
+use native.Mathlib.Omega.{arith}
+use borrow.Author.Tests.{eqb-true, eqb-false}
+use lib.Dec.{T, eqb, leb, eqb→eq, leb→le}
+use lib.ListN.{length}
+use Rattle.diagram.specs.Bound.{mostVariables, mostOutputs}
+use Rattle.diagram.specs.Order.{isOrder}
+use Rattle.diagram.proofs.Bools.{split, to-T, absurd-T, and-l, and-r}
+use Rattle.table.specs.declared.Answer.{Answer}
+use Rattle.table.specs.declared.Answer.the-variants.{Done, BadLength, BadCheck, BadKind, BadInputs, BadOutputs, BadOrder, BadContent}
+use Rattle.table.specs.Answer.{unless, done}
+use Rattle.table.specs.File.{goodCheck, goodKind, goodTail, goodRest, inputsOf, outputsOf, fileOrder, streamBits, streamBlocks, firstBit, blockAnswer, blocksAnswer, streamsAnswer, fileAnswer}
+
+-- a success passes each test
+unless-done : (ok : Bool) (refusal rest : Answer) → done refusal ≡ false → T (done (unless ok refusal rest)) → T ok × T (done rest)
+unless-done true refusal rest e t = (tt, t)
+unless-done false refusal rest e t = absurd-T t e
+
+-- block k of an accepted file
+pub record AcceptedBlock (bits blocks : ℕ) (file : List ℕ) (k : ℕ) : Type 0 where
+  pub check : T (goodCheck file k)
+  pub kind : T (goodKind blocks file k)
+  pub tail : T (goodTail bits file k (firstBit blocks k))
+
+pub accepted-block : (bits blocks : ℕ) (file : List ℕ) (k : ℕ) → T (done (blockAnswer bits blocks file k)) → AcceptedBlock bits blocks file k
+unfolding blockAnswer
+accepted-block bits blocks file k t =
+    let u = unless-done (goodCheck file k) BadCheck _ refl t in
+    let v = unless-done (goodKind blocks file k) BadKind _ refl (u .1) in
+    record { check = u .0; kind = v .0; tail = unless-done (goodTail bits file k (firstBit blocks k)) BadContent (Done 0) refl (v .1) .0 }
+
+both-done : (a rest : Answer) → T (done (cond (done a) rest a)) → T (done a) × T (done rest)
+both-done a rest t = split (done a) (λ e. (to-T e, rw e at t)) (λ e. absurd-T {b = done a} (rw e at t) e)
+
+-- each of the `left` blocks from block k on
+accepted-from : (bits blocks : ℕ) (file : List ℕ) (k left : ℕ) → T (done (blocksAnswer bits blocks file k left))
+    → (j : ℕ) → k ≤ j → j < k + left → T (done (blockAnswer bits blocks file j))
+unfolding blocksAnswer
+accepted-from bits blocks file k zero t j h l = absurd (omega arith)
+accepted-from bits blocks file k (suc left) t j h l =
+    let u = both-done (blockAnswer bits blocks file k) (blocksAnswer bits blocks file (suc k) left) t in
+    split (eqb j k) (λ e. subst (λ (i : ℕ). T (done (blockAnswer bits blocks file i))) (sym (eqb-true j k e)) (u .0))
+    (λ e. let d : j ≢ k = eqb-false j k e in accepted-from bits blocks file (suc k) left (u .1) j (omega arith) (omega arith))
+
+-- an accepted file
+pub record Accepted (file : List ℕ) : Type 0 where
+  pub check : T (goodCheck file 0)
+  pub kind : T (goodKind 0 file 0)
+  pub inputs : inputsOf file ≤ 10
+  pub one-output : 1 ≤ outputsOf file
+  pub outputs : outputsOf file ≤ 16
+  pub order : T (isOrder (inputsOf file) (fileOrder file))
+  pub rest : T (goodRest file)
+  pub long : length file ≡ 512 * (1 + 2 * streamBlocks (inputsOf file) (outputsOf file))
+  pub blocks : (k : ℕ) → 1 ≤ k → k ≤ 2 * streamBlocks (inputsOf file) (outputsOf file)
+      → AcceptedBlock (streamBits (inputsOf file) (outputsOf file)) (streamBlocks (inputsOf file) (outputsOf file)) file k
+
+pub accepted : (file : List ℕ) → T (done (fileAnswer file)) → Accepted file
+unfolding fileAnswer streamsAnswer mostVariables mostOutputs
+accepted file t =
+    let n : ℕ = inputsOf file in
+    let m : ℕ = outputsOf file in
+    let l = unless-done (leb 1 (length file) && eqb (length file % 512) 0) BadLength _ refl t in
+    let c = unless-done (goodCheck file 0) BadCheck _ refl (l .1) in
+    let k = unless-done (goodKind 0 file 0) BadKind _ refl (c .1) in
+    let i = unless-done (leb n mostVariables) BadInputs _ refl (k .1) in
+    let o = unless-done (leb 1 m && leb m mostOutputs) BadOutputs _ refl (i .1) in
+    let p = unless-done (isOrder n (fileOrder file)) BadOrder _ refl (o .1) in
+    let r = unless-done (goodRest file) BadContent _ refl (p .1) in
+    let s = unless-done (eqb (length file) (512 * (1 + 2 * streamBlocks n m))) BadLength _ refl (r .1) in
+    record {
+      check = c .0;
+      kind = k .0;
+      inputs = leb→le n 10 (i .0);
+      one-output = leb→le 1 m (and-l (leb 1 m) (leb m mostOutputs) (o .0));
+      outputs = leb→le m 16 (and-r (leb 1 m) (leb m mostOutputs) (o .0));
+      order = p .0;
+      rest = r .0;
+      long = eqb→eq (length file) (512 * (1 + 2 * streamBlocks n m)) (s .0);
+      blocks = λ j g h. accepted-block (streamBits n m) (streamBlocks n m) file j
+          (accepted-from (streamBits n m) (streamBlocks n m) file 1 (2 * streamBlocks n m) (s .1) j g (omega arith));
+    }

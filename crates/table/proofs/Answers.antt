@@ -1,0 +1,94 @@
+-- What the further blocks answer, one block at a time; and an answer's success by its variant.
+-- Assumes nothing.
+use mathlib.Core.Path.{_≡_, refl, sym, ap, ap₂, _∙_, subst}
+use mathlib.Core.Bool.{true, false}
+use mathlib.Core.List.{List, [], _∷_}
+use Prim.Native.Nat.{ℕ, suc, _+_, _*_, _-_, _/_, _%_, _^_, _≤_, _<_}
+use native.Mathlib.Nat.{mul-le-mul, mod-eq-of-lt}
+use native.Mathlib.Numerals.{add-one}
+use native.Mathlib.Omega.{arith}
+use borrow.Author.Tests.{eq-eqb, ne-eqb}
+use types.Run.{OneOf, miss}
+use denote.Enum.Declared.{tagOf}
+use lib.Dec.{eqb}
+use lib.ListN.{length}
+use lib.Pow.{pow-mono}
+use Rattle.table.specs.declared.Answer.{Answer}
+use Rattle.table.specs.declared.Answer.the-variants.{Done, BadLength, BadCheck, BadKind, BadInputs, BadOutputs, BadOrder, BadContent, NoRow, NoPlace, ShortBuffer, NoTable, NoNetwork, TooSmall, BadCells}
+use Rattle.table.proofs.Answer.{the-type}
+use Rattle.table.specs.Answer.{done}
+use Rattle.table.specs.File.{streamBlocks, blockAnswer, blocksAnswer, streamsAnswer}
+
+-- a success is the first variant
+done-tag : (a : Answer) → done a ≡ eqb (tagOf the-type a) 0
+done-tag (Done v) = refl
+done-tag BadLength = refl
+done-tag BadCheck = refl
+done-tag BadKind = refl
+done-tag BadInputs = refl
+done-tag BadOutputs = refl
+done-tag BadOrder = refl
+done-tag BadContent = refl
+done-tag NoRow = refl
+done-tag NoPlace = refl
+done-tag ShortBuffer = refl
+done-tag NoTable = refl
+done-tag NoNetwork = refl
+done-tag (TooSmall w) = refl
+done-tag BadCells = refl
+
+abbrev others : List ℕ
+others = 1 ∷ 2 ∷ 3 ∷ 4 ∷ 5 ∷ 6 ∷ 7 ∷ 8 ∷ 9 ∷ 10 ∷ 11 ∷ 12 ∷ 13 ∷ 14 ∷ []
+
+pub is-first : (a : Answer) → tagOf the-type a ≡ 0 → true ≡ done a
+is-first a e = sym (done-tag a ∙ eq-eqb (tagOf the-type a) 0 e)
+
+pub is-other : (a : Answer) → OneOf others (tagOf the-type a) → false ≡ done a
+is-other a o = sym (done-tag a ∙ ne-eqb (tagOf the-type a) 0 (λ e. miss others 0 tt (subst (OneOf others) e o)))
+
+-- the blocks from block k to block `last`: block k's answer if it is a refusal, else those after it
+module _ (bits blocks : ℕ) (file : List ℕ) (last k : ℕ) where
+  pub blocks-next : k ≤ last → done (blockAnswer bits blocks file k) ≡ true
+      → blocksAnswer bits blocks file k (suc last - k) ≡ blocksAnswer bits blocks file (k + 1) (suc last - (k + 1))
+  unfolding blocksAnswer
+  blocks-next h e =
+      let n : suc last - k ≡ suc (last - k) = omega arith in
+      let o : suc last - (k + 1) ≡ last - k = omega arith in
+      rw (n, o, add-one k, e)
+
+  pub blocks-stop : k ≤ last → done (blockAnswer bits blocks file k) ≡ false
+      → blocksAnswer bits blocks file k (suc last - k) ≡ blockAnswer bits blocks file k
+  unfolding blocksAnswer
+  blocks-stop h e = let n : suc last - k ≡ suc (last - k) = omega arith in rw (n, e)
+
+  pub blocks-end : last < k → blocksAnswer bits blocks file k (suc last - k) ≡ Done 0
+  unfolding blocksAnswer
+  blocks-end h = let n : suc last - k ≡ 0 = omega arith in rw n
+
+-- a stream has at most 16,384 bits, in at most 5 blocks
+pub stream-small : (n m : ℕ) → n ≤ 10 → m ≤ 16 → m * 2 ^ n ≤ 16384
+stream-small n m h k = mul-le-mul {n₂ = 16} {m₂ = 1024} k (pow-mono {j = 10} h)
+
+pub shifted-out : (n m : ℕ) → n ≤ 10 → m ≤ 16 → m * 2 ^ n % 18446744073709551616 ≡ m * 2 ^ n
+shifted-out n m h k = mod-eq-of-lt (omega (arith, stream-small n m h k))
+
+pub few-blocks : (n m : ℕ) → n ≤ 10 → m ≤ 16 → streamBlocks n m ≤ 5
+unfolding streamBlocks
+few-blocks n m h k = omega (arith, stream-small n m h k)
+
+pub blocks-for-is : (n m x : ℕ) → n ≤ 10 → m ≤ 16 → x ≡ (m * 2 ^ n % 18446744073709551616 + 4047) / 4048 → x ≡ streamBlocks n m
+unfolding streamBlocks
+blocks-for-is n m x h k e = e ∙ ap (λ (b : ℕ). (b + 4047) / 4048) (shifted-out n m h k)
+
+-- the block count, then the blocks
+module _ (file : List ℕ) (n m r : ℕ) (e : r ≡ streamBlocks n m) where
+  pub wrong-count : (length file ≡ 512 * (1 + 2 * r) → ⊥) → BadLength ≡ streamsAnswer file n m
+  unfolding streamsAnswer
+  wrong-count d = rw (ne-eqb (length file) (512 * (1 + 2 * streamBlocks n m)) (λ q. d (q ∙ ap (λ (b : ℕ). 512 * (1 + 2 * b)) (sym e))))
+
+  pub right-count : (bits : ℕ) (a : Answer) → length file ≡ 512 * (1 + 2 * r) → bits ≡ m * 2 ^ n → a ≡ blocksAnswer bits r file 1 (2 * r)
+      → a ≡ streamsAnswer file n m
+  unfolding streamsAnswer
+  right-count bits a d q o =
+      rw (eq-eqb (length file) (512 * (1 + 2 * streamBlocks n m)) (d ∙ ap (λ (b : ℕ). 512 * (1 + 2 * b)) e))
+      (o ∙ ap₂ (λ (x b : ℕ). blocksAnswer x b file 1 (2 * b)) q e)

@@ -1,0 +1,85 @@
+-- When a state is valid: the heading's rules tested one after the other, and what a state that holds a table keeps.
+-- Assumes nothing.
+use mathlib.Core.Path.{_≡_, refl}
+use mathlib.Core.Bool.{Bool, true, false, not, _&&_}
+use mathlib.Core.List.{List}
+use Prim.Native.Nat.{ℕ, _*_, _^_, _≤_, _<_}
+use native.Mathlib.Nat.{le-trans, mul-le-mul-left, mul-le-mul-right}
+use native.Mathlib.Omega.{arith}
+use borrow.Author.Tests.{le-leb, lt-leb}
+use lib.Dec.{T, leb, leb→le}
+use lib.Pow.{pow-mono}
+use lib.ListN.{length, length-take}
+use Rattle.diagram.specs.Bound.{mostVariables, mostOutputs}
+use Rattle.diagram.specs.Order.{isOrder}
+use Rattle.diagram.proofs.Bools.{split, to-T, and-l, and-r}
+use Rattle.diagram.proofs.Order.{order-length}
+use Rattle.table.specs.declared.State.{State}
+use Rattle.table.specs.declared.Stage.the-variants.{Nothing}
+use Rattle.table.specs.State.{goodHeading, orderOf, stageOf, isNothing}
+
+-- the first rule that is broken, or the order's
+
+and-false : (a : Bool) → a && false ≡ false
+and-false true = refl
+and-false false = refl
+
+pub many-inputs : (n m : ℕ) (order : List ℕ) → 10 < n → goodHeading n m order ≡ false
+unfolding goodHeading mostVariables
+many-inputs n m order h = rw (lt-leb n 10 h)
+
+pub no-outputs : (n m : ℕ) (order : List ℕ) → m ≡ 0 → goodHeading n m order ≡ false
+unfolding goodHeading
+no-outputs n m order e = rw (lt-leb 1 m (omega arith)) (and-false (leb n mostVariables))
+
+pub many-outputs : (n m : ℕ) (order : List ℕ) → 16 < m → goodHeading n m order ≡ false
+unfolding goodHeading mostOutputs
+many-outputs n m order h = rw (lt-leb m 16 h, and-false (leb 1 m)) (and-false (leb n mostVariables))
+
+pub good-order : (n m : ℕ) (order : List ℕ) → n ≤ 10 → (m ≡ 0 → ⊥) → m ≤ 16 → goodHeading n m order ≡ isOrder n order
+unfolding goodHeading mostVariables mostOutputs
+good-order n m order h d k = rw (le-leb n 10 h, le-leb 1 m (omega arith), le-leb m 16 k)
+
+-- the stage that a state counts as
+
+pub stage-bad : (s : State) → goodHeading (s .n) (s .m) (orderOf s) ≡ false → stageOf s ≡ Nothing
+unfolding stageOf
+stage-bad s e = rw e
+
+pub stage-good : (s : State) → goodHeading (s .n) (s .m) (orderOf s) ≡ true → stageOf s ≡ s .stage
+unfolding stageOf
+stage-good s e = rw e
+
+-- what a state that holds a table keeps
+
+module _ (s : State) (held : T (not (isNothing (stageOf s)))) where
+  heading : T (goodHeading (s .n) (s .m) (orderOf s))
+  heading =
+      split (goodHeading (s .n) (s .m) (orderOf s)) (λ e. to-T e) (λ e. absurd (rw (stage-bad s e) at held))
+
+  pub few-inputs : s .n ≤ 10
+  unfolding goodHeading mostVariables
+  few-inputs = leb→le (s .n) 10 (and-l (leb (s .n) 10) _ heading)
+
+  outputs : T ((leb 1 (s .m) && leb (s .m) 16) && isOrder (s .n) (orderOf s))
+  unfolding goodHeading mostVariables mostOutputs
+  outputs = and-r (leb (s .n) 10) _ heading
+
+  in-range : T (leb 1 (s .m) && leb (s .m) 16)
+  in-range = and-l (leb 1 (s .m) && leb (s .m) 16) (isOrder (s .n) (orderOf s)) outputs
+
+  pub some-outputs : 1 ≤ s .m
+  some-outputs = leb→le 1 (s .m) (and-l (leb 1 (s .m)) (leb (s .m) 16) in-range)
+
+  pub few-outputs : s .m ≤ 16
+  few-outputs = leb→le (s .m) 16 (and-r (leb 1 (s .m)) (leb (s .m) 16) in-range)
+
+  pub ordered : T (isOrder (s .n) (orderOf s))
+  ordered = and-r (leb 1 (s .m) && leb (s .m) 16) _ outputs
+
+  pub inputs-fit : s .n ≤ length (s .order)
+  inputs-fit = omega (arith, order-length (s .n) (orderOf s) ordered, length-take (s .n) (s .order))
+
+  pub few-bits : s .m * 2 ^ s .n ≤ 16384
+  few-bits =
+      le-trans (mul-le-mul-left (s .m) (pow-mono few-inputs)) (mul-le-mul-right (2 ^ 10) few-outputs)

@@ -1,0 +1,72 @@
+-- What load leaves, by its answer.
+-- Assumes nothing.
+use mathlib.Core.Path.{_≡_, refl, ap, ap₂, _∙_}
+use mathlib.Core.Bool.{Bool, true, false, cond, _&&_}
+use mathlib.Core.List.{List, map}
+use Prim.Native.Nat.{ℕ, _+_, _≤_, _<_}
+use borrow.Author.Tests.{le-leb, lt-leb}
+use lib.Dec.{ltb, leb}
+use lib.ListN.{length}
+use Rattle.diagram.specs.Lists.{upTo}
+use Rattle.table.specs.declared.State.{State}
+use Rattle.table.specs.declared.Stage.the-variants.{Table as AtTable}
+use Rattle.table.specs.declared.Answer.{Answer}
+use Rattle.table.specs.declared.Answer.the-variants.{ShortBuffer}
+use Rattle.table.specs.Answer.{done}
+use Rattle.table.specs.File.{byte, inputsOf, outputsOf, streamBlocks, streamByte, fileAnswer}
+use Rattle.table.proofs.Heading.{second-false}
+use Rattle.table.specs.Calls.{planeSize, over, loadAnswer, loadedState, loadOutcome, loadValues, loadCare}
+
+-- the state of a heading in hand
+state-read : (file : List ℕ) (n m : ℕ) (order : List ℕ) → n ≡ inputsOf file → m ≡ outputsOf file
+    → order ≡ map (λ p. cond (ltb p n) (byte file 0 (6 + p)) 0) (upTo 10)
+    → record { n = n; m = m; order = order; count = 0; stage = AtTable } ≡ loadedState file
+state-read file n m order en em eo =
+    let o : order ≡ map (λ p. cond (ltb p (inputsOf file)) (byte file 0 (6 + p)) 0) (upTo 10) =
+    eo ∙ ap (λ (k : ℕ). map (λ p. cond (ltb p k) (byte file 0 (6 + p)) 0) (upTo 10)) en in
+    rw (en, em, o)
+
+-- the answer: a plane that is too short, else the file's
+
+short : (b : Bool) (file values care : List ℕ) → leb planeSize (length values) && leb planeSize (length care) ≡ b
+    → loadAnswer file values care ≡ cond b (fileAnswer file) ShortBuffer
+unfolding loadAnswer
+short b file values care e = rw e
+
+module _ (file values care : List ℕ) where
+  pub short-values : length values < 2048 → loadAnswer file values care ≡ ShortBuffer
+  unfolding planeSize
+  short-values h = short false file values care (rw (lt-leb 2048 (length values) h))
+
+  pub short-care : length care < 2048 → loadAnswer file values care ≡ ShortBuffer
+  unfolding planeSize
+  short-care h = short false file values care (second-false (leb 2048 (length values)) (lt-leb 2048 (length care) h))
+
+  pub long-planes : 2048 ≤ length values → 2048 ≤ length care → loadAnswer file values care ≡ fileAnswer file
+  unfolding planeSize
+  long-planes h k = short true file values care (rw (le-leb 2048 (length values) h) (le-leb 2048 (length care) k))
+
+  -- a refusal leaves all as it was
+  pub refused : (s : State) (a : Answer) → loadAnswer file values care ≡ a → done a ≡ false
+      → (record { answer = a; state = s } ≡ loadOutcome s file values care)
+      × ((values ≡ loadValues file values care) × (care ≡ loadCare file values care))
+  unfolding loadOutcome loadValues loadCare
+  refused s a e d = rw (e, d) (refl, (refl, refl))
+
+  -- a success leaves what the heading and the streams say
+  pub loads : (s : State) (a : Answer) → loadAnswer file values care ≡ a → done a ≡ true
+      → (n m blocks : ℕ) (order v c : List ℕ) → n ≡ inputsOf file → m ≡ outputsOf file → blocks ≡ streamBlocks n m
+      → order ≡ map (λ p. cond (ltb p n) (byte file 0 (6 + p)) 0) (upTo 10)
+      → v ≡ over (streamByte file 1 blocks) planeSize values → c ≡ over (streamByte file (1 + blocks) blocks) planeSize care
+      → (record { answer = a; state = record { n = n; m = m; order = order; count = 0; stage = AtTable } } ≡ loadOutcome s file values care)
+      × ((v ≡ loadValues file values care) × (c ≡ loadCare file values care))
+  unfolding loadOutcome loadValues loadCare
+  loads s a e d n m blocks order v c en em eb eo ev ec =
+      let b : blocks ≡ streamBlocks (inputsOf file) (outputsOf file) = eb ∙ ap₂ streamBlocks en em in
+      rw (e, d) (
+        ap (λ (t : State). record { answer = a; state = t }) (state-read file n m order en em eo),
+        (
+          ev ∙ ap (λ (k : ℕ). over (streamByte file 1 k) planeSize values) b,
+          ec ∙ ap (λ (k : ℕ). over (streamByte file (1 + k) k) planeSize care) b,
+        ),
+      )

@@ -1,0 +1,62 @@
+-- `table::block::good_byte` meets its contract.
+-- Assumes nothing.
+use mathlib.Core.Path.{sym}
+use borrow.Author.Needs.{needs}
+use denote.Ref.{now}
+use Rattle.table.proofs.Tail.{byte-inside, byte-outside, byte-shifted}
+use Rattle.table.proofs.block.good_byte.Statement.{statement}
+use Rattle.table.proofs.block.good_byte.Tie as tie
+
+add-block-byte : tie.Need-add-block-byte
+add-block-byte c = search needs
+
+block-byte-requires : tie.Need-block-byte-requires
+block-byte-requires c κs = search needs
+
+mul-at : tie.Need-mul-at
+mul-at c = search needs
+
+add-at : tie.Need-add-at
+add-at c = search needs
+
+add-if1 : tie.Need-add-if1
+add-if1 c = search needs
+
+returns : tie.Need-returns
+returns c =
+    let x = c .before .block-byte in
+    let a = c .before .before .before .args in
+    byte-inside (a .bits) (now (a .file)) (a .k) (a .first) (a .j) (x .result) (x .ensures .1) (x .ensures .0) (c .if1 .taken)
+
+returns-2 : tie.Need-returns-2
+returns-2 c =
+    let x = c .before .before .block-byte in
+    let a = c .before .before .before .before .args in
+    byte-outside (a .bits) (now (a .file)) (a .k) (a .first) (a .j) (x .result) (x .ensures .1) (x .ensures .0) (c .if2 .taken)
+
+sub-result : tie.Need-sub-result
+sub-result c = search needs
+
+shr-result : tie.Need-shr-result
+shr-result c = search needs
+
+returns-3 : tie.Need-returns-3
+returns-3 c =
+    let x = c .before .before .block-byte in
+    let a = c .before .before .before .before .args in
+    sym (byte-shifted (a .bits) (now (a .file)) (a .k) (a .first) (a .j) (x .result) (x .ensures .1) (x .ensures .0))
+
+pub good-byte-spec : {M : Type 1} → statement M
+good-byte-spec =
+    tie.close
+    (tie.spec
+    add-block-byte
+    block-byte-requires
+    mul-at
+    add-at
+    add-if1
+    returns
+    returns-2
+    sub-result
+    shr-result
+    returns-3)

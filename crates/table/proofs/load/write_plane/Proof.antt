@@ -1,0 +1,76 @@
+-- `table::load::write_plane` meets its contract. The loop's invariant: the plane is written over as far as byte i.
+-- Assumes nothing.
+use mathlib.Core.Path.{_≡_, refl, ap, _∙_}
+use Prim.Native.Nat.{_-_, _≤_}
+use denote.Ref.{now}
+use native.Mathlib.Omega.{arith}
+use lib.ListN.{length}
+use Rattle.table.specs.File.{streamByte}
+use Rattle.table.specs.Calls.{over}
+use Rattle.table.proofs.Over.{over-next, over-plane, length-over}
+use Rattle.table.proofs.load.write_plane.Statement.{statement}
+use Rattle.table.proofs.load.write_plane.Tie as tie
+
+abbrev Inv-loop : tie.InvT-loop
+Inv-loop file first blocks plane₀ i₀ plane i = (i ≤ 2048) × (plane ≡ over (streamByte file first blocks) i plane₀)
+
+abbrev μ-loop : tie.MeasureT-loop
+μ-loop file first blocks plane₀ i₀ plane i = 2048 - i
+
+loop-holds : tie.Need-loop-holds Inv-loop μ-loop
+loop-holds c = (omega arith, refl)
+
+stream-byte-requires : tie.Need-stream-byte-requires Inv-loop μ-loop
+stream-byte-requires c κs = omega arith
+
+slice-write-plane : tie.Need-slice-write-plane Inv-loop μ-loop
+slice-write-plane c =
+    let l = c .before .before .loop in
+    let a = c .before .before .before .before .before .args in
+    omega (
+      arith,
+      ap length (l .inv .1),
+      length-over (streamByte (now (a .file)) (a .first) (a .blocks)) (l .i) (now (a .plane)) (omega arith),
+    )
+
+add-i : tie.Need-add-i Inv-loop μ-loop
+add-i c = omega arith
+
+loop-less : tie.Need-loop-less Inv-loop μ-loop
+loop-less c = omega arith
+
+loop-again : tie.Need-loop-again Inv-loop μ-loop
+loop-again c =
+    let l = c .before .before .loop in
+    let a = c .before .before .before .before .before .args in (
+      omega arith,
+      over-next (streamByte (now (a .file)) (a .first) (a .blocks)) (now (a .plane)) (l .plane) (l .i) (c .stream-byte .result)
+          (omega arith) (l .inv .1) (c .stream-byte .ensures),
+    )
+
+same-length : tie.Need-same-length Inv-loop μ-loop
+same-length c =
+    let l = c .before .loop in
+    let a = c .before .before .before .before .args in
+    ap length (l .inv .1) ∙ length-over (streamByte (now (a .file)) (a .first) (a .blocks)) (l .i) (now (a .plane)) (omega arith)
+
+returns : tie.Need-returns Inv-loop μ-loop
+returns c =
+    let l = c .before .loop in
+    let a = c .before .before .before .before .args in
+    l .inv .1 ∙ over-plane (streamByte (now (a .file)) (a .first) (a .blocks)) (now (a .plane)) (l .i) (omega arith)
+
+pub write-plane-spec : {M : Type 1} → statement M
+write-plane-spec =
+    tie.close
+    (tie.spec
+    Inv-loop
+    μ-loop
+    loop-holds
+    stream-byte-requires
+    slice-write-plane
+    add-i
+    loop-less
+    loop-again
+    same-length
+    returns)

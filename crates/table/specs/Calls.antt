@@ -1,0 +1,78 @@
+-- What each call of this crate answers and leaves (document 01, sections 2, 6 and 7).
+-- Assumes nothing.
+use mathlib.Core.Bool.{Bool, true, false, cond, not, _&&_}
+use mathlib.Core.List.{List, _++_, map}
+use Prim.Native.Nat.{ℕ, suc, _+_}
+use lib.Dec.{ltb, leb}
+use lib.ListN.{length, drop}
+use Rattle.diagram.specs.Lists.{upTo}
+use Rattle.table.specs.declared.State.{State}
+use Rattle.table.specs.declared.Outcome.{Outcome}
+use Rattle.table.specs.declared.Answer.{Answer}
+use Rattle.table.specs.declared.Answer.the-variants.{Done, NoPlace, ShortBuffer, NoTable}
+use Rattle.table.specs.declared.Stage.the-variants.{Table as AtTable}
+use Rattle.table.specs.Answer.{unless, done}
+use Rattle.table.specs.Stream.{caredBits}
+use Rattle.table.specs.State.{orderOf, stageOf, isNothing, exchanged, reorderedState}
+use Rattle.table.specs.File.{byte, inputsOf, outputsOf, streamBlocks, streamByte, fileAnswer}
+
+-- the bytes of values or care that a call uses
+unfoldable pub planeSize : ℕ
+planeSize = 2048
+
+-- f 0 to f (k - 1), then l from its element k on
+abbrev pub over : {A : Type 0} → (ℕ → A) → ℕ → List A → List A
+over f k l = map f (upTo k) ++ drop k l
+
+-- load checks 10 first, then the file
+unfoldable pub loadAnswer : List ℕ → List ℕ → List ℕ → Answer
+loadAnswer file values care =
+    unless (leb planeSize (length values) && leb planeSize (length care)) ShortBuffer (fileAnswer file)
+
+-- 'After load the stage is table'; order entries past n are zero
+abbrev pub loadedState : List ℕ → State
+loadedState file =
+    record {
+      n = inputsOf file;
+      m = outputsOf file;
+      order = map (λ p. cond (ltb p (inputsOf file)) (byte file 0 (6 + p)) 0) (upTo 10);
+      count = 0;
+      stage = AtTable;
+    }
+
+-- the stream that block `first` begins, from byte 0, and zeros to 2,048 bytes
+abbrev pub loadedPlane : List ℕ → ℕ → List ℕ → List ℕ
+loadedPlane file first plane = over (streamByte file first (streamBlocks (inputsOf file) (outputsOf file))) planeSize plane
+
+-- the outcome of a load; a refusal leaves the state
+unfoldable pub loadOutcome : State → List ℕ → List ℕ → List ℕ → Outcome
+loadOutcome s file values care =
+    record {
+      answer = loadAnswer file values care;
+      state = cond (done (loadAnswer file values care)) (loadedState file) s;
+    }
+
+unfoldable pub loadValues : List ℕ → List ℕ → List ℕ → List ℕ
+loadValues file values care = cond (done (loadAnswer file values care)) (loadedPlane file 1 values) values
+
+unfoldable pub loadCare : List ℕ → List ℕ → List ℕ → List ℕ
+loadCare file values care =
+    cond (done (loadAnswer file values care))
+    (loadedPlane file (1 + streamBlocks (inputsOf file) (outputsOf file)) care) care
+
+-- swap: 21, then 9
+unfoldable pub swapAnswer : State → ℕ → Answer
+swapAnswer s p = unless (not (isNothing (stageOf s))) NoTable (unless (ltb (suc p) (s .n)) NoPlace (Done 0))
+
+unfoldable pub swapOutcome : State → ℕ → Outcome
+swapOutcome s p =
+    record {
+      answer = swapAnswer s p;
+      state = cond (done (swapAnswer s p)) (reorderedState s (exchanged p (s .order))) s;
+    }
+
+-- the number of cared bits in the stream: 10, then 21
+unfoldable pub caredAnswer : State → List ℕ → Answer
+caredAnswer s care =
+    unless (leb planeSize (length care)) ShortBuffer
+    (unless (not (isNothing (stageOf s))) NoTable (Done (caredBits (s .n) (s .m) care)))

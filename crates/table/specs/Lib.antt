@@ -1,0 +1,5 @@
+pub mod Answer
+pub mod Stream
+pub mod State
+pub mod File
+pub mod Calls

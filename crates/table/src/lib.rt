@@ -1,0 +1,55 @@
+// The table file, the state that every call takes and gives back, and what a call answers (document 01, sections 1, 2, 6 and 7).
+pub mod bits;
+mod block;
+pub mod cared;
+pub mod load;
+mod order;
+pub mod swap;
+pub mod valid;
+
+// The most variables, outputs, and bytes of values or care that a table has.
+pub const VARIABLES: usize = 10;
+
+pub const OUTPUTS: usize = 16;
+
+pub const PLANE: usize = 2048;
+
+pub enum Stage {
+    Nothing,
+    Table,
+    Network,
+}
+
+// What is held: n variables, m outputs, the variable at each level, and the nodes of the network if one is held.
+pub struct State {
+    pub n: usize,
+    pub m: usize,
+    pub order: [usize; 10],
+    pub count: usize,
+    pub stage: Stage,
+}
+
+// What a call answers; specs/Answer.antt has each one's number.
+pub enum Answer {
+    Done(usize),
+    BadLength,
+    BadCheck,
+    BadKind,
+    BadInputs,
+    BadOutputs,
+    BadOrder,
+    BadContent,
+    NoRow,
+    NoPlace,
+    ShortBuffer,
+    NoTable,
+    NoNetwork,
+    TooSmall(usize),
+    BadCells,
+}
+
+// An answer, and the state after the call.
+pub struct Outcome {
+    pub answer: Answer,
+    pub state: State,
+}

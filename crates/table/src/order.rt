@@ -1,0 +1,59 @@
+// Orders of the variables: the variable at each level, the top level first (document 01, sections 1 and 2).
+use crate::block::block_byte;
+ghost use mathlib.Core.Path.{_≡_};
+ghost use mathlib.Core.Bool.{cond};
+ghost use mathlib.Core.List.{map};
+ghost use Prim.Native.Nat.{ℕ, suc, _+_, _≤_, _<_};
+ghost use lib.Dec.{eqb, ltb};
+ghost use lib.ListN.{getD, take, drop};
+ghost use Rattle.diagram.specs.Lists.{has, upTo};
+ghost use Rattle.diagram.specs.Order.{isOrder};
+ghost use Rattle.table.specs.File.{byte};
+
+// Whether the variable at level i stands again at a later level below n.
+fn repeated(order: [usize; 10], n: usize, i: usize) -> bool
+    requires { ⌜ (n ≤ 10) × (i < n) ⌝ }
+    ensures { λ r. ⌜ r ≡ has eqb (getD order i 0) (drop (suc i) (take n order)) ⌝ }
+{
+    let v = order[i];
+    let mut j = i + 1;
+    while j < n {
+        if v == order[j] {
+            return true;
+        }
+        j += 1;
+    }
+    false
+}
+
+// Whether the first n entries have each of the n variables once.
+pub(crate) fn is_order(order: [usize; 10], n: usize) -> bool
+    requires { ⌜ n ≤ 10 ⌝ }
+    ensures { λ r. ⌜ r ≡ isOrder n (take n order) ⌝ }
+{
+    let mut i: usize = 0;
+    while i < n {
+        if n <= order[i] {
+            return false;
+        }
+        if repeated(order, n, i) {
+            return false;
+        }
+        i += 1;
+    }
+    true
+}
+
+// The heading's order, and zeros past n.
+pub(crate) fn read_order(file: &[u8], n: usize) -> [usize; 10]
+    requires { ⌜ n ≤ 10 ⌝ }
+    ensures { λ r. ⌜ r ≡ map (λ p. cond (ltb p n) (byte (now (file .entry)) 0 (6 + p)) 0) (upTo 10) ⌝ }
+{
+    let mut order = [0usize; 10];
+    let mut p: usize = 0;
+    while p < n {
+        order[p] = block_byte(file, 0, 6 + p);
+        p += 1;
+    }
+    order
+}
