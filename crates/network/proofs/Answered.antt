@@ -1,0 +1,114 @@
+-- What evaluation answers, one test after the other, and what the tests that were passed say of the lent cells.
+-- Assumes nothing.
+use mathlib.Core.Path.{_≡_, refl, ap, _∙_}
+use mathlib.Core.Bool.{Bool, true, false, not, cond}
+use mathlib.Core.List.{List, []}
+use Prim.Native.Nat.{ℕ, zero, suc, _*_, _/_, _%_, _^_, _≤_, _<_}
+use native.Mathlib.Omega.{arith}
+use borrow.Author.Tests.{lt-ltb, le-ltb, le-leb, lt-leb}
+use lib.Dec.{T, eqb, ltb}
+use lib.ListN.{length, getD, take}
+use Rattle.diagram.specs.Lists.{flip}
+use Rattle.diagram.specs.Diagram.{Node, inverts, wellFormed, gives}
+use Rattle.diagram.specs.Order.{rowUnder}
+use Rattle.diagram.proofs.Bools.{to-T}
+use Rattle.diagram.proofs.Evaluate.{formed-roots, formed-nodes}
+use Rattle.table.specs.declared.Answer.the-variants.{Done, ShortBuffer, NoNetwork, NoRow, BadCells}
+use Rattle.table.specs.declared.Stage.{Stage}
+use Rattle.table.specs.declared.Stage.the-variants.{Nothing, Table as AtTable, Network}
+use Rattle.table.specs.declared.State.{State}
+use Rattle.table.specs.State.{orderOf, stageOf, isNothing, isNetwork}
+use Rattle.table.proofs.Held.{few-inputs, few-outputs, ordered}
+use Rattle.network.specs.Lent.{lentDiagram, rootsSize}
+use Rattle.network.specs.Cells.{lentCells, Followable, Rooted, outputAt}
+use Rattle.network.specs.Evaluate.{outputsOf, goodCells, rowOutputs, evaluateAnswer}
+use Rattle.network.proofs.Outputs.{bit-placed}
+
+network-held : (t : Stage) → T (isNetwork t) → T (not (isNothing t))
+network-held Nothing h = h
+network-held AtTable h = tt
+network-held Network h = tt
+
+-- what a row gives does not depend on the roots
+gives-roots : (cs : List Node) (rs rs′ : List ℕ) (a : ℕ → Bool) (k r : ℕ)
+    → gives true (record { nodes = cs; roots = rs }) a k r ≡ gives true (record { nodes = cs; roots = rs′ }) a k r
+unfolding gives
+gives-roots cs rs rs′ a zero r = refl
+gives-roots cs rs rs′ a (suc k) r =
+    ap (λ (b : Bool). cond (ltb r 2) (eqb r 1) (flip (inverts true r) b)) (gives-roots cs rs rs′ a k _)
+
+-- the outputs of the lent diagram are those of its cells
+pub outputs-row : (s : State) (row : ℕ) (roots cells : List ℕ)
+    → outputsOf (s .m) (outputAt (s .n) (s .count) (s .order) cells row roots) ≡ rowOutputs s row roots cells
+unfolding rowOutputs outputAt lentDiagram lentCells
+outputs-row s row roots cells =
+    ap (outputsOf (s .m))
+    (λ i j. gives-roots (lentCells (s .count) cells .nodes) [] (take (s .m) roots) (rowUnder (s .n) (orderOf s) row) (s .n) (getD roots j 0) i)
+
+module _ (s : State) (row : ℕ) (roots cells : List ℕ) where
+  pub answer-short : length roots < 16 → evaluateAnswer s row roots cells ≡ ShortBuffer
+  unfolding evaluateAnswer rootsSize
+  answer-short h = rw (lt-leb 16 (length roots) h)
+
+  module _ (long : 16 ≤ length roots) where
+    pub answer-no-network : isNetwork (stageOf s) ≡ false → evaluateAnswer s row roots cells ≡ NoNetwork
+    unfolding evaluateAnswer rootsSize
+    answer-no-network e = rw (le-leb 16 (length roots) long, e)
+
+    module _ (held : isNetwork (stageOf s) ≡ true) where
+      table : T (not (isNothing (stageOf s)))
+      table = network-held (stageOf s) (to-T held)
+
+      pub inputs-few : s .n ≤ 10
+      inputs-few = few-inputs s table
+
+      pub roots-fit : s .m ≤ length roots
+      roots-fit = omega (arith, few-outputs s table)
+
+      rows : 1 * 2 ^ s .n % 2 ^ 64 ≡ 2 ^ s .n
+      rows = bit-placed (s .n) (omega (arith, inputs-few))
+
+      pub answer-no-row : 1 * 2 ^ s .n % 2 ^ 64 ≤ row → evaluateAnswer s row roots cells ≡ NoRow
+      unfolding evaluateAnswer rootsSize
+      answer-no-row h = rw (le-leb 16 (length roots) long, held, le-ltb row (2 ^ s .n) (omega (arith, rows)))
+
+      module _ (known : row < 1 * 2 ^ s .n % 2 ^ 64) where
+        rest : (b : Bool) → goodCells s roots cells ≡ b
+            → evaluateAnswer s row roots cells ≡ cond b (Done (rowOutputs s row roots cells)) BadCells
+        unfolding evaluateAnswer rootsSize
+        rest b e = rw (le-leb 16 (length roots) long, held, lt-ltb row (2 ^ s .n) (omega (arith, rows)), e)
+
+        pub answer-few-cells : length cells / 3 < s .count → evaluateAnswer s row roots cells ≡ BadCells
+        unfolding goodCells
+        answer-few-cells h = rest false (rw (lt-leb (s .count) (length cells / 3) h))
+
+        module _ (enough : s .count ≤ length cells / 3) where
+          pub answer-not-formed : wellFormed true (s .n) (s .m) (lentDiagram (s .count) (s .m) cells roots) ≡ false
+              → evaluateAnswer s row roots cells ≡ BadCells
+          unfolding goodCells
+          answer-not-formed e = rest false (rw (le-leb (s .count) (length cells / 3) enough, e))
+
+          module _ (formed : wellFormed true (s .n) (s .m) (lentDiagram (s .count) (s .m) cells roots) ≡ true) where
+            pub followable : Followable (s .n) (s .count) (s .order) cells
+            unfolding lentDiagram lentCells
+            followable = record {
+              few = inputs-few;
+              ordered = ordered s table;
+              held = enough;
+              good = formed-nodes true (s .n) (s .m) (lentDiagram (s .count) (s .m) cells roots) (to-T formed);
+            }
+
+            pub rooted : Rooted (s .m) (s .count) roots cells
+            unfolding lentDiagram lentCells
+            rooted = record {
+              few = few-outputs s table;
+              fit = roots-fit;
+              own = formed-roots true (s .n) (s .m) (lentDiagram (s .count) (s .m) cells roots) (to-T formed);
+            }
+
+            pub answer-done : (x : ℕ) → x ≡ outputsOf (s .m) (outputAt (s .n) (s .count) (s .order) cells row roots)
+                → evaluateAnswer s row roots cells ≡ Done x
+            unfolding goodCells
+            answer-done x e =
+                rest true (rw (le-leb (s .count) (length cells / 3) enough, formed))
+                ∙ rw (e, outputs-row s row roots cells)

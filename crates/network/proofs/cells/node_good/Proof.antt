@@ -1,0 +1,78 @@
+-- `network::cells::node_good` meets its contract: each return is one case of a cell's test.
+-- Assumes nothing.
+use borrow.Author.Needs.{needs}
+use mathlib.Core.Path.{sym, _∙_}
+use borrow.Author.Tests.{not-true, not-false}
+use denote.Ref.{now}
+use Rattle.network.proofs.Tested.{node-deep, node-low-bad, node-low-good}
+use Rattle.network.proofs.cells.node_good.Statement.{statement}
+use Rattle.network.proofs.cells.node_good.Tie as tie
+
+mul-first : tie.Need-mul-first
+mul-first c = search needs
+
+number-at-requires : tie.Need-number-at-requires
+number-at-requires c κs = search needs
+
+returns : tie.Need-returns
+returns c =
+    let a = c .before .before .before .args in
+    let p = c .before .number-at in
+    sym (node-deep (a .count) (now (a .cells)) (a .n) (a .i) (p .result) (p .ensures .0) (search needs))
+
+add-number-at : tie.Need-add-number-at
+add-number-at c = search needs
+
+number-at-requires-2 : tie.Need-number-at-requires-2
+number-at-requires-2 c κs = search needs
+
+later-than-requires : tie.Need-later-than-requires
+later-than-requires c κs = search needs
+
+returns-2 : tie.Need-returns-2
+returns-2 c =
+    let a = c .before .before .before .before .before .before .args in
+    let p = c .before .before .before .before .number-at in
+    let l = c .before .before .number-at2 in
+    let t = c .before .later-than in
+    sym
+    (node-low-bad (a .count) (now (a .cells)) (a .n) (a .i) (p .result) (p .ensures .0) (l .result) (l .ensures .0)
+    (sym (t .ensures) ∙ not-true (t .result) (c .if2 .taken)))
+
+add-number-at-2 : tie.Need-add-number-at-2
+add-number-at-2 c = search needs
+
+number-at-requires-3 : tie.Need-number-at-requires-3
+number-at-requires-3 c κs = search needs
+
+later-than-requires-2 : tie.Need-later-than-requires-2
+later-than-requires-2 c κs = search needs
+
+returns-3 : tie.Need-returns-3
+returns-3 c =
+    let a = c .before .before .before .before .before .before .before .before .args in
+    let p = c .before .before .before .before .before .before .number-at in
+    let l = c .before .before .before .before .number-at2 in
+    let t = c .before .before .before .later-than in
+    let h = c .before .number-at3 in
+    c .later-than2 .ensures
+    ∙ sym
+    (node-low-good (a .count) (now (a .cells)) (a .n) (a .i) (p .result) (p .ensures .0) (l .result) (l .ensures .0)
+    (search needs) (sym (t .ensures) ∙ not-false (t .result) (c .before .before .if2 .left))
+    (h .result) (h .ensures .0))
+
+pub node-good-spec : {M : Type 1} → statement M
+node-good-spec =
+    tie.close
+    (tie.spec
+    mul-first
+    number-at-requires
+    returns
+    add-number-at
+    number-at-requires-2
+    later-than-requires
+    returns-2
+    add-number-at-2
+    number-at-requires-3
+    later-than-requires-2
+    returns-3)

@@ -1,0 +1,24 @@
+-- The lent cells and roots as a diagram (document 01, sections 2 and 4): three numbers a cell, sixteen roots.
+-- Assumes nothing.
+use mathlib.Core.List.{List, [], _∷_, map}
+use Prim.Native.Nat.{ℕ, _+_, _*_}
+use lib.ListN.{getD, take}
+use Rattle.diagram.specs.Lists.{upTo}
+use Rattle.diagram.specs.Diagram.{Node, Diagram}
+
+-- 'cells of three 16-bit numbers': cell i, from 0
+abbrev pub lentNode : List ℕ → ℕ → Node
+lentNode cells i = record { level = getD cells (3 * i) 0; low = getD cells (3 * i + 1) 0; high = getD cells (3 * i + 2) 0 }
+
+-- the counted cells and the first m roots
+unfoldable pub lentDiagram : ℕ → ℕ → List ℕ → List ℕ → Diagram
+lentDiagram count m cells roots = record { nodes = map (lentNode cells) (upTo count); roots = take m roots }
+
+-- the numbers of nodes, three each, one after the other
+abbrev pub numbersOf : List Node → List ℕ
+numbersOf [] = []
+numbersOf (c ∷ cs) = c .level ∷ c .low ∷ c .high ∷ numbersOf cs
+
+-- how many roots are lent
+unfoldable pub rootsSize : ℕ
+rootsSize = 16
