@@ -1,0 +1,159 @@
+"""Compares the programs `print` and `desk` with the reference.
+
+    python3 tests/compare.py --print PATH --desk PATH [--seed S] [--cases N]
+
+Each case is one run of a program on one table, and its whole output must be
+the expected text. On a difference the seed, the command and both texts are
+shown and the exit status is 1; a group of cases ends at its first difference.
+`--only NAME` runs one group again; `--keep FILE` writes the table of the first
+difference there.
+"""
+
+import argparse
+import multiprocessing
+import os
+import shlex
+import subprocess
+import sys
+from collections import namedtuple
+
+import cases
+import expected
+
+WORKERS = 2
+SECONDS_PER_RUN = 60
+MOST_SHOWN = 3
+# A long text is shown from a little above its first differing line.
+MOST_LINES_SHOWN = 60
+LINES_ABOVE = 10
+# A Rust program that panics ends with this status.
+PANIC_STATUS = 101
+
+Difference = namedtuple("Difference", "group case wanted printed")
+
+
+def expected_text(case):
+    if case.program == "print":
+        return expected.print_text(case.table)
+    return expected.desk_text(case.table, case.words)
+
+
+def printed_text(path, case):
+    """What the program prints; a crash is told as a text no table gives.
+
+    The texts don't rule the exit status, so it isn't compared otherwise.
+    """
+    try:
+        run = subprocess.run(
+            [path] + case.words, input=case.table, capture_output=True,
+            timeout=SECONDS_PER_RUN,
+        )
+    except subprocess.TimeoutExpired:
+        return f"no end within {SECONDS_PER_RUN} seconds\n"
+    text = run.stdout.decode("utf-8", "backslashreplace")
+    if run.returncode < 0 or run.returncode == PANIC_STATUS:
+        complaint = run.stderr.decode("utf-8", "backslashreplace")
+        return f"{text}crash, status {run.returncode}: {complaint}\n"
+    return text
+
+
+def run_group(job):
+    """In a worker: how many cases were compared, and the first difference."""
+    name, seed, random_count, paths = job
+    made = cases.groups(seed, random_count)[name]()
+    for done, case in enumerate(made, 1):
+        wanted = expected_text(case)
+        printed = printed_text(paths[case.program], case)
+        if printed != wanted:
+            return done, Difference(name, case, wanted, printed)
+    return len(made), None
+
+
+def readable(text):
+    """Printable even where a word isn't text at all."""
+    return text.encode("utf-8", "backslashreplace").decode()
+
+
+def shown(text, differing):
+    lines = text.splitlines()
+    start = 0
+    if len(lines) > MOST_LINES_SHOWN:
+        start = max(0, differing - 1 - LINES_ABOVE)
+    part = lines[start : start + MOST_LINES_SHOWN]
+    heading = f"  lines {start + 1} to {start + len(part)} of {len(lines)}:"
+    return readable("\n".join([heading] + ["    " + line for line in part]))
+
+
+def first_differing_line(wanted, printed):
+    wanted_lines, printed_lines = wanted.split("\n"), printed.split("\n")
+    for number, (left, right) in enumerate(zip(wanted_lines, printed_lines), 1):
+        if left != right:
+            return number
+    return min(len(wanted_lines), len(printed_lines)) + 1
+
+
+def show(difference, seed, paths):
+    case = difference.case
+    command = shlex.join([paths[case.program]] + case.words)
+    head = " ".join(str(byte) for byte in case.table[4:16])
+    print(f"difference: seed {seed}, group {difference.group!r}")
+    print(f"command: {readable(command)}")
+    print(f"table: {len(case.table)} bytes, from byte 4: {head}")
+    differing = first_differing_line(difference.wanted, difference.printed)
+    print(f"first differing line: {differing}")
+    print(f"expected:\n{shown(difference.wanted, differing)}")
+    print(f"printed:\n{shown(difference.printed, differing)}")
+
+
+def compared(jobs):
+    """Runs all groups; answers the number of cases and the differences.
+
+    The shortest come first, since they are the easiest to follow.
+    """
+    total, differences = 0, []
+    with multiprocessing.Pool(WORKERS) as pool:
+        for done, difference in pool.imap_unordered(run_group, jobs):
+            total += done
+            if difference:
+                differences.append(difference)
+    differences.sort(key=lambda each: (len(each.wanted), len(each.case.table), each.group))
+    return total, differences
+
+
+def arguments():
+    parser = argparse.ArgumentParser(description=__doc__.splitlines()[0])
+    parser.add_argument("--print", required=True, dest="print_path")
+    parser.add_argument("--desk", required=True, dest="desk_path")
+    parser.add_argument("--seed", type=int, default=1)
+    parser.add_argument("--cases", type=int, default=1000, help="random tables")
+    parser.add_argument("--only", help="the one group of cases to run")
+    parser.add_argument("--keep", help="where to write the first difference's table")
+    return parser.parse_args()
+
+
+def main():
+    given = arguments()
+    paths = {
+        "print": os.path.abspath(given.print_path),
+        "desk": os.path.abspath(given.desk_path),
+    }
+    for path in paths.values():
+        if not os.access(path, os.X_OK):
+            sys.exit(f"no program at {path}")
+    names = list(cases.groups(given.seed, given.cases))
+    if given.only is not None:
+        if given.only not in names:
+            sys.exit(f"no group {given.only!r}")
+        names = [given.only]
+    total, differences = compared([(name, given.seed, given.cases, paths) for name in names])
+    for difference in differences[:MOST_SHOWN]:
+        show(difference, given.seed, paths)
+    if differences and given.keep:
+        with open(given.keep, "wb") as kept:
+            kept.write(differences[0].case.table)
+    print(f"compared {total} cases, {len(differences)} differences")
+    sys.exit(1 if differences else 0)
+
+
+if __name__ == "__main__":
+    main()

@@ -1,0 +1,182 @@
+"""What `print` and `desk` must print, word for word, by the reference.
+
+`python3 tests/expected.py print < TABLE` and
+`python3 tests/expected.py desk WORD.. < TABLE` show it to a person.
+
+Decisions where the texts leave room:
+- `desk` answers input over 65,536 bytes with `load 1 0`, its own form of the
+  `refused 1` that `print` gives.
+- A number is one or more of the digits 0 to 9 and nothing else, so no sign and
+  no blank; zeros in front are allowed, as 007 for 7.
+- `board B` with B over 2,159 is a wrong number, so it is a `bad word`.
+- Words are read in turn, so what stands before a bad word has been done and
+  printed, and a refused load is printed whatever the words are.
+- `rows` prints a line for every row below 2^n at every stage, so at stage
+  table each of them says 22.
+"""
+
+import sys
+
+import reference
+
+LONGEST_INPUT = 65536
+LARGEST_NUMBER = 4294967295
+MOST_CELLS = 2159
+
+PLAIN_WORDS = ("count", "build", "order", "state", "cells", "rows", "cared")
+NUMBER_WORDS = ("swap", "sift", "pass", "eval", "board")
+
+
+class Desk:
+    """A state with buffers that are always long enough."""
+
+    def __init__(self):
+        self.state = reference.State()
+        self.values = bytearray(reference.TABLE_BYTES)
+        self.care = bytearray(reference.TABLE_BYTES)
+        self.work = bytearray(reference.WORK_BYTES)
+        self.roots = [0] * reference.ROOTS
+        self.cells = [0] * (3 * MOST_CELLS)
+        self.board = MOST_CELLS
+
+    def load(self, file):
+        if len(file) > LONGEST_INPUT:
+            return 1, 0
+        return reference.load(self.state, file, self.values, self.care)
+
+    def build(self):
+        """Builds into the board's part of the cells only."""
+        lent = self.cells[: 3 * self.board]
+        answer = reference.build(
+            self.state, self.values, self.care, self.work, self.roots, lent
+        )
+        self.cells[: 3 * self.board] = lent
+        return answer
+
+    def call(self, word, number):
+        """The calls that print `WORD NUMBER VALUE`."""
+        table = self.values, self.care, self.work
+        if word == "count":
+            return reference.count(self.state, *table)
+        if word == "build":
+            return self.build()
+        if word == "swap":
+            return reference.swap(self.state, number)
+        if word == "sift":
+            return reference.sift(self.state, number, *table)
+        if word == "pass":
+            return reference.sift_pass(self.state, number, *table)
+        return reference.evaluate(self.state, number, self.roots, self.cells)
+
+    def order_line(self):
+        return " ".join(["order"] + [str(i) for i in reference.used_order(self.state)])
+
+    def cared_line(self):
+        bits = reference.stream_bits(self.care, self.state.m * 2**self.state.n)
+        return f"cared {sum(bits)}"
+
+    def cell_lines(self):
+        """The held cells and roots, if a network is held."""
+        if self.state.stage != reference.NETWORK:
+            return []
+        lines = []
+        for i in range(self.state.count):
+            place, zero_arrow, one_arrow = self.cells[3 * i : 3 * i + 3]
+            lines.append(f"cell {i + 1} {place} {zero_arrow} {one_arrow}")
+        for j in range(self.state.m):
+            lines.append(f"root {j} {self.roots[j]}")
+        return lines
+
+    def row_lines(self):
+        lines = []
+        for row in range(2**self.state.n):
+            number, value = self.call("eval", row)
+            lines.append(f"row {row} {number} {value}")
+        return lines
+
+    def say(self, word, number):
+        """The lines that one word of the command prints."""
+        if word == "board":
+            self.board = number
+            return []
+        if word == "order":
+            return [self.order_line()]
+        if word == "state":
+            return [f"state {self.state.stage} {self.state.count}"]
+        if word == "cells":
+            return self.cell_lines()
+        if word == "rows":
+            return self.row_lines()
+        if word == "cared":
+            return [self.cared_line()]
+        refusal, value = self.call(word, number)
+        return [f"{word} {refusal} {value}"]
+
+
+def number_in(text, largest):
+    """The number a word stands for, or None where it is wrong."""
+    if text == "" or any(mark not in "0123456789" for mark in text):
+        return None
+    return int(text) if int(text) <= largest else None
+
+
+def steps(words):
+    """The words as (word, number) in turn; a wrong one is ("bad word", K)."""
+    at = 0
+    while at < len(words):
+        word = words[at]
+        at += 1
+        if word in PLAIN_WORDS:
+            yield word, None
+            continue
+        if word not in NUMBER_WORDS:
+            yield "bad word", at
+            return
+        text = words[at] if at < len(words) else ""
+        at += 1
+        number = number_in(text, MOST_CELLS if word == "board" else LARGEST_NUMBER)
+        if number is None:
+            yield "bad word", at
+            return
+        yield word, number
+
+
+def as_text(lines):
+    return "".join(line + "\n" for line in lines)
+
+
+def desk_text(file, words):
+    desk = Desk()
+    refusal, value = desk.load(file)
+    lines = [f"load {refusal} {value}"]
+    if refusal:
+        return as_text(lines)
+    for word, number in steps(words):
+        if word == "bad word":
+            lines.append(f"bad word {number}")
+        else:
+            lines += desk.say(word, number)
+    return as_text(lines)
+
+
+def print_text(file):
+    desk = Desk()
+    refusal, _ = desk.load(file)
+    if not refusal:
+        refusal, _ = desk.build()
+    if refusal:
+        return as_text([f"refused {refusal}"])
+    lines = [f"inputs {desk.state.n}", f"outputs {desk.state.m}"]
+    lines += [desk.order_line(), desk.cared_line(), f"cells {desk.state.count}"]
+    return as_text(lines + desk.cell_lines())
+
+
+def main():
+    file = sys.stdin.buffer.read()
+    program, words = sys.argv[1], sys.argv[2:]
+    text = print_text(file) if program == "print" else desk_text(file, words)
+    sys.stdout.write(text)
+
+
+if __name__ == "__main__":
+    main()

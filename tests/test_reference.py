@@ -1,0 +1,338 @@
+"""A quick test of the reference against the paper's own figures.
+
+`python3 tests/test_reference.py`. The figures here are copied from the paper
+or worked out by hand, never taken from a program.
+"""
+
+import random
+import unittest
+
+import cases
+import expected
+import files
+import reference
+
+EXCLUSIVE_OR_TEXT = """\
+inputs 2
+outputs 1
+order 0 1
+cared 4
+cells 2
+cell 1 0 4 5
+cell 2 1 0 1
+root 0 2
+"""
+
+
+def two_ands(order):
+    """Input 0 and 1, or 2 and 3."""
+    return files.table_file(4, 1, order, cases.bits_of(0xF888, 16), [1] * 16)
+
+
+def loaded(file):
+    desk = expected.Desk()
+    assert desk.load(file) == (0, 0)
+    return desk
+
+
+def network_of(file):
+    """Cells and roots as built in the file's order."""
+    desk = loaded(file)
+    _, count = desk.build()
+    triples = [tuple(desk.cells[3 * i : 3 * i + 3]) for i in range(count)]
+    return triples, desk.roots[: desk.state.m]
+
+
+def filled_of(file):
+    """The filled outputs of a table in natural order, as text."""
+    desk = loaded(file)
+    table = reference.lent_table(desk.state, desk.values, desk.care)
+    outputs = reference.filled(table, reference.used_order(desk.state))
+    return [" ".join(str(bit) for bit in output) for output in outputs]
+
+
+def desk_lines(file, command):
+    return expected.desk_text(file, command.split()).splitlines()
+
+
+class Files(unittest.TestCase):
+    def test_section_8_bytes(self):
+        file = files.table_from_rows(["0 1 1 0"])
+        heading, values, care = files.blocks_of(file)
+        self.assertEqual(heading[:8], bytes([1, 0, 0, 0, 2, 1, 0, 1]))
+        self.assertEqual(values[:5], bytes([2, 0, 1, 0, 0x06]))
+        self.assertEqual(care[:5], bytes([3, 0, 2, 0, 0x0F]))
+        checks = [reference.stored_check(block) for block in (heading, values, care)]
+        self.assertEqual(checks, [25, 35, 84])
+
+    def test_section_9_bytes(self):
+        self.assertEqual(two_ands([0, 1, 2, 3])[512 + 4 : 512 + 6], bytes([0x88, 0xF8]))
+
+    def test_longest_file(self):
+        self.assertEqual(len(cases.all_zero(10, 16)), 11 * 512)
+
+    def test_every_damage_and_pair(self):
+        for base in cases.DAMAGE_BASES.values():
+            sound = base()
+            self.assertEqual(reference.file_refusal(sound), 0)
+            damages = files.all_damages(sound)
+            for chosen in [[damage] for damage in damages] + cases.damage_pairs(damages):
+                refusal = reference.file_refusal(files.damaged(sound, chosen))
+                names = [damage.name for damage in chosen]
+                self.assertEqual(refusal, files.refusal_due(chosen), names)
+
+    def test_sizes_at_their_limits(self):
+        self.assertEqual(desk_lines(cases.all_zero(10, 1), ""), ["load 0 0"])
+        eleven = files.with_byte(cases.all_zero(10, 1), 0, 4, 11)
+        self.assertEqual(desk_lines(eleven, "count"), ["load 4 0"])
+
+    def test_lengths(self):
+        spoiled = files.with_stored_check(cases.all_zero(2, 1), 0, 1)
+        for length, number in ((0, 1), (511, 1), (512, 2), (513, 1), (65536, 2), (66048, 1)):
+            table = spoiled[:length].ljust(length, b"\0")
+            self.assertEqual(expected.print_text(table), f"refused {number}\n")
+            self.assertEqual(expected.desk_text(table, []), f"load {number} 0\n")
+
+
+class Tables(unittest.TestCase):
+    def assert_network(self, outputs, cells, roots):
+        self.assertEqual(network_of(files.table_from_rows(outputs)), (cells, roots))
+
+    def test_section_8_text(self):
+        file = files.table_from_rows(["0 1 1 0"])
+        self.assertEqual(expected.print_text(file), EXCLUSIVE_OR_TEXT)
+
+    def test_no_inputs(self):
+        self.assert_network(["1"], [], [1])
+        text = expected.print_text(files.table_from_rows(["1"]))
+        self.assertEqual(text, "inputs 0\noutputs 1\norder\ncared 1\ncells 0\nroot 0 1\n")
+
+    def test_and_with_its_inverse(self):
+        cells = [(0, 0, 4), (1, 0, 1)]
+        self.assert_network(["0 0 0 1"], cells, [2])
+        self.assert_network(["1 1 1 0"], cells, [3])
+        self.assert_network(["0 0 0 1", "1 1 1 0"], cells, [2, 3])
+
+    def test_two_inputs(self):
+        self.assert_network(["0 1 1 0"], [(0, 4, 5), (1, 0, 1)], [2])
+        self.assert_network(["0 1 0 1"], [(1, 0, 1)], [2])
+        self.assert_network(["0 0 0 -"], [], [0])
+
+    def test_fills(self):
+        for rows in ("0 1 1 -", "0 1 - 1"):
+            file = files.table_from_rows([rows])
+            self.assertEqual(filled_of(file), ["0 1 1 1"])
+            self.assertEqual(len(network_of(file)[0]), 2)
+
+    def test_two_ands(self):
+        natural, mixed = two_ands([0, 1, 2, 3]), two_ands([0, 2, 1, 3])
+        self.assertEqual(desk_lines(natural, "count")[-1], "count 0 4")
+        self.assertEqual(desk_lines(mixed, "count")[-1], "count 0 6")
+        lines = desk_lines(mixed, "build sift 1 order state count")[2:]
+        self.assertEqual(lines, ["sift 0 4", "order 1 0 2 3", "state table 0", "count 0 4"])
+        lines = desk_lines(natural, "board 3 build state board 4 build state")[1:]
+        self.assertEqual(lines, ["build 23 4", "state table 0", "build 0 4", "state network 4"])
+
+    def test_rows_places_and_passes(self):
+        exclusive_or = files.table_from_rows(["0 1 1 0"])
+        lines = desk_lines(exclusive_or, "eval 4 build eval 3 eval 1 eval 4")
+        self.assertEqual(lines[1:], ["eval 22 0", "build 0 2", "eval 0 0", "eval 0 1", "eval 8 0"])
+        self.assertEqual(desk_lines(files.table_from_rows(["0 1"]), "swap 0")[-1], "swap 9 0")
+        lines = desk_lines(files.table_from_rows(["1"]), "build pass 9 state sift 0")
+        self.assertEqual(lines[2:], ["pass 0 0", "state table 0", "sift 9 0"])
+
+
+class Filling(unittest.TestCase):
+    """Section 9's slips, each with a table on which it shows."""
+
+    def assert_fills(self, outputs, filled):
+        self.assertEqual(filled_of(files.table_from_rows(outputs)), filled)
+
+    def test_inverted_match(self):
+        # The lower half is the upper one inverted where it is cared.
+        self.assert_fills(["0 1 1 0 1 0 - -"], ["0 1 1 0 1 0 0 1"])
+
+    def test_care_after_merges(self):
+        # Output 1 widens output 0's entry to 0 1 1 -, which output 2 then
+        # neither is nor inverts, though it agreed with 0 1 - - as it was.
+        outputs = ["0 1 - -", "0 - 1 -", "- 1 0 0"]
+        self.assert_fills(outputs, ["0 1 1 1", "0 1 1 1", "1 1 0 0"])
+
+    def test_constants_before_matches(self):
+        self.assert_fills(["0 1 1 0", "- - 1 -"], ["0 1 1 0", "1 1 1 1"])
+        self.assert_fills(["0 1 1 0", "- - - -"], ["0 1 1 0", "0 0 0 0"])
+
+    def test_plain_before_inverted(self):
+        # No row is cared in both, so plain and inverted would both agree.
+        self.assert_fills(["0 1 - -", "- - 0 1"], ["0 1 0 1", "0 1 0 1"])
+
+    def test_first_entry_in_sequence(self):
+        outputs = ["0 1 1 0", "0 0 1 0", "0 - 1 0"]
+        self.assert_fills(outputs, ["0 1 1 0", "0 0 1 0", "0 1 1 0"])
+
+    def test_full_care_fills_to_itself(self):
+        rng = random.Random(5)
+        for _ in range(50):
+            n, m = rng.randint(0, 5), rng.randint(1, 4)
+            values = [rng.randint(0, 1) for _ in range(m << n)]
+            file = files.table_file(n, m, range(n), values, [1] * len(values))
+            self.assertEqual(" ".join(filled_of(file)), " ".join(map(str, values)))
+
+
+class Networks(unittest.TestCase):
+    def test_widest_table(self):
+        file = cases.widest_cases(random.Random(1))[0].table
+        self.assertEqual(desk_lines(file, "board 2158 build")[-1], "build 23 2159")
+
+    def test_order_entries_are_inputs_at_places(self):
+        # Input 0 alone, in the order 2 0 1: it stands at place 1.
+        file = files.table_from_rows(["0 0 0 0 1 1 1 1"], [2, 0, 1])
+        self.assertEqual(network_of(file), ([(1, 0, 1)], [2]))
+
+    def test_numbers_by_place_then_output(self):
+        # Output 0's segments come first: inputs 1 and 2 under input 0 at 1.
+        outputs = ["0 0 0 0 0 1 1 0", "0 0 0 1 0 0 0 0"]
+        cells = [(0, 0, 6), (0, 8, 0), (1, 10, 11), (1, 0, 10), (2, 0, 1)]
+        self.assertEqual(network_of(files.table_from_rows(outputs)), (cells, [2, 4]))
+
+    def test_cared_rows_evaluate_to_their_bits(self):
+        rng = random.Random(6)
+        for _ in range(60):
+            n, m = rng.randint(0, 5), rng.randint(1, 5)
+            desk = loaded(cases.random_table(rng, n, m))
+            desk.build()
+            values = reference.stream_bits(desk.values, m << n)
+            care = reference.stream_bits(desk.care, m << n)
+            for row in range(1 << n):
+                number, answer = desk.call("eval", row)
+                self.assertEqual(number, 0)
+                for j in range(m):
+                    if care[(j << n) + row]:
+                        self.assertEqual(answer >> j & 1, values[(j << n) + row])
+
+
+class Sifting(unittest.TestCase):
+    def test_pass_by_its_limit(self):
+        # From 0 2 1 3, inputs 1 and 2 have two cells each, 0 and 3 one. So 1
+        # goes first, to the top; then all have one cell each and 0, 2 and 3
+        # follow, each to the smallest place that keeps the four cells.
+        wanted = {
+            0: (0, "0 2 1 3"), 3: (0, "0 2 1 3"), 4: (4, "1 0 2 3"), 7: (4, "1 0 2 3"),
+            8: (8, "0 1 2 3"), 12: (12, "0 1 2 3"), 15: (12, "0 1 2 3"),
+            16: (16, "0 1 3 2"), 17: (16, "0 1 3 2"), 4294967295: (16, "0 1 3 2"),
+        }
+        for limit, (tried, order) in wanted.items():
+            lines = desk_lines(two_ands([0, 2, 1, 3]), f"build pass {limit} order state")
+            self.assertEqual(lines[2:], [f"pass 0 {tried}", f"order {order}", "state table 0"])
+
+    def test_last_place_is_tried(self):
+        # Input 1 beside both inputs' and: three cells with 1 on top, two below.
+        file = files.table_from_rows(["0 1 0 1", "0 0 0 1"], [1, 0])
+        lines = desk_lines(file, "count sift 1 order")[1:]
+        self.assertEqual(lines, ["count 0 3", "sift 0 2", "order 0 1"])
+
+    def test_every_order_is_filled_afresh(self):
+        # In the order 0 1 the free row is 1, for two cells; in the order 1 0
+        # it is 0, for input 1 alone. Filled once, both orders have two.
+        file = files.table_from_rows(["0 1 - 1"])
+        for sifting, answer in (("sift 0", 1), ("pass 2", 2)):
+            lines = desk_lines(file, f"build {sifting} order build cells cared")[1:]
+            wanted = ["build 0 2", f"{sifting[:4]} 0 {answer}", "order 1 0", "build 0 1"]
+            self.assertEqual(lines, wanted + ["cell 1 0 0 1", "root 0 2", "cared 3"])
+
+
+class States(unittest.TestCase):
+    """Forged states and short buffers, which no program can be given."""
+
+    def desk_with_network(self):
+        desk = loaded(two_ands([0, 1, 2, 3]))
+        desk.build()
+        return desk
+
+    def evaluated(self, desk):
+        return reference.evaluate(desk.state, 15, desk.roots, desk.cells)
+
+    def test_broken_states_count_as_nothing(self):
+        for name, value in (("n", 11), ("m", 0), ("m", 17), ("order", [0, 0, 1, 2] + [0] * 6)):
+            desk = self.desk_with_network()
+            setattr(desk.state, name, value)
+            self.assertEqual(self.evaluated(desk), (22, 0))
+            for call in ("count", "build", "swap", "sift", "pass"):
+                self.assertEqual(desk.call(call, 0), (21, 0))
+
+    def test_entries_past_n_are_kept(self):
+        desk = self.desk_with_network()
+        desk.state.order[4:] = [9, 9, 8, 0, 0, 7]
+        for call in ("swap", "sift", "pass"):
+            self.assertEqual(desk.call(call, 1)[0], 0)
+        self.assertEqual(desk.state.order[4:], [9, 9, 8, 0, 0, 7])
+
+    def test_broken_networks(self):
+        # Of cells (0, 6, 4), (1, 6, 1), (2, 0, 8), (3, 0, 1) one number is
+        # made wrong: a place, a reference past the last, an arrow to itself.
+        for at, number in ((0, 4), (1, 10), (2, 11), (1, 2), (2, 3), (4, 4)):
+            desk = self.desk_with_network()
+            self.assertEqual(self.evaluated(desk), (0, 1))
+            desk.cells[at] = number
+            self.assertEqual(self.evaluated(desk), (24, 0))
+        desk.cells, desk.roots[0] = self.desk_with_network().cells, 10
+        self.assertEqual(self.evaluated(desk), (24, 0))
+        desk.roots[0] = 9
+        self.assertEqual(self.evaluated(desk)[0], 0)
+        desk.cells = desk.cells[:11]
+        self.assertEqual(self.evaluated(desk), (24, 0))
+
+    def test_short_buffers_come_first(self):
+        for name, length in (("values", 2047), ("care", 2047), ("work", 32767)):
+            desk = expected.Desk()
+            setattr(desk, name, bytearray(length))
+            for call in ("count", "build", "sift", "pass"):
+                self.assertEqual(desk.call(call, 99), (10, 0))
+        desk = expected.Desk()
+        desk.roots = [0] * 15
+        self.assertEqual([desk.build(), desk.call("eval", 99)], [(10, 0), (10, 0)])
+
+    def test_refused_build_writes_work_alone(self):
+        desk = loaded(two_ands([0, 1, 2, 3]))
+        desk.cells, desk.roots, desk.board = [5] * 11, [6] * 17, 11
+        self.assertEqual(desk.build(), (23, 4))
+        self.assertEqual((desk.cells, desk.roots), ([5] * 11, [6] * 17))
+
+    def test_build_leaves_the_rest(self):
+        desk = loaded(two_ands([0, 1, 2, 3]))
+        desk.cells, desk.roots, desk.board = [5] * 14, [6] * 17, 14
+        self.assertEqual(desk.build(), (0, 4))
+        self.assertEqual((desk.cells[12:], desk.roots), ([5, 5], [2] + [0] * 15 + [6]))
+
+    def test_work_is_left_zero(self):
+        for call, board in (("count", 9), ("build", 9), ("build", 3), ("sift", 9), ("pass", 9)):
+            desk = self.desk_with_network()
+            desk.board, desk.work = board, bytearray([7] * 32769)
+            desk.call(call, 3)
+            self.assertEqual((any(desk.work[:-1]), desk.work[-1]), (False, 7))
+
+
+class Words(unittest.TestCase):
+    def test_bad_words(self):
+        file = files.table_from_rows(["0 1 1 0"])
+        wanted = {
+            "nonsense": 1, "count 5": 2, "swap": 2, "swap -1": 2, "build eval +1": 3,
+            "board 2160": 2, "eval 4294967296": 2, "state pass": 3, "swap count": 2,
+        }
+        for command, place in wanted.items():
+            self.assertEqual(desk_lines(file, command)[-1], f"bad word {place}", command)
+
+    def test_cells_only_of_a_network(self):
+        file = files.table_from_rows(["0 1 1 0"])
+        self.assertEqual(len(desk_lines(file, "cells build cells swap 0 cells")), 1 + 1 + 3 + 1)
+
+    def test_refused_build_keeps_the_network(self):
+        file = files.table_from_rows(["0 1 1 0"])
+        lines = desk_lines(file, "build board 1 build state cells rows")
+        self.assertEqual(lines[2:4], ["build 23 2", "state network 2"])
+        self.assertEqual(lines[4:7], EXCLUSIVE_OR_TEXT.splitlines()[5:])
+        self.assertEqual(lines[7:], ["row 0 0 0", "row 1 0 1", "row 2 0 1", "row 3 0 0"])
+
+
+if __name__ == "__main__":
+    unittest.main()
