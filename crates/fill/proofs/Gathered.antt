@@ -1,0 +1,94 @@
+-- Bytes gathered one bit at a time, and the bytes that are gathered under an order: those of the reordered table.
+-- Assumes nothing.
+use mathlib.Core.Path.{_≡_, refl, sym, ap, ap₂, _∙_}
+use mathlib.Core.Bool.{Bool, true, false, cond}
+use mathlib.Core.List.{List, _++_, map}
+use Prim.Native.Nat.{ℕ, zero, suc, _+_, _*_, _%_, _^_, _≤_, _<_, min}
+use native.Mathlib.Numerals.{add-one}
+use native.Mathlib.Omega.{arith}
+use borrow.Author.Tests.{lt-ltb}
+use lib.Bits.{bitOr, or-shifted-r}
+use lib.Dec.{T, eqb, ltb, lit<}
+use lib.ListN.{getD, take, drop, List·getD-append}
+use lib.Pow.{shl-exact}
+use Rattle.diagram.specs.Lists.{digit, index, upTo, bit}
+use Rattle.diagram.specs.Order.{isOrder, behind}
+use Rattle.diagram.specs.Tree.{draw}
+use Rattle.diagram.specs.Fill.{Row}
+use Rattle.diagram.specs.Table.{reordered}
+use Rattle.diagram.proofs.Bits.{number-cong}
+use Rattle.diagram.proofs.Order.{index-below}
+use Rattle.table.specs.Stream.{streamBit, tableOf}
+use Rattle.table.specs.Calls.{over}
+use Rattle.fill.specs.Pack.{width, pack, encode}
+use Rattle.fill.specs.Gather.{gathered, placesOf, rowOf, gatheredPlane, gatheredPart}
+use Rattle.fill.proofs.UpTo.{map-upTo-cong, length-map-upTo, getD-upTo}
+use Rattle.fill.proofs.DrawBytes.{gathered-cong, draw-bytes}
+use Rattle.fill.proofs.Shifts.{byte-within}
+
+-- one bit more
+
+pub gathered-lt : (k : ℕ) (f : ℕ → Bool) → gathered k f < 2 ^ k
+gathered-lt zero f = omega arith
+gathered-lt (suc k) f = step (f k) (gathered-lt k f)
+  where
+    step : (b : Bool) → gathered k f < 2 ^ k → gathered k f + digit b * 2 ^ k < 2 ^ suc k
+    step true h = omega arith
+    step false h = omega arith
+
+module _ (k : ℕ) (f : ℕ → Bool) (byte : ℕ) (e : byte ≡ gathered k f) where
+  pub bit-set : k < 8 → f k ≡ true → bitOr byte (1 * 2 ^ k % 256) ≡ gathered (k + 1) f
+  bit-set h t =
+      let s : 1 * 2 ^ k % 256 ≡ 1 * 2 ^ k = shl-exact {a = 1} 1 k 8 (lit< tt) (omega arith) in
+      let q : gathered (k + 1) f ≡ gathered k f + 1 * 2 ^ k = ap (λ j. gathered j f) (add-one k) ∙ ap (λ b. gathered k f + digit b * 2 ^ k) t in
+      ap₂ bitOr e s ∙ or-shifted-r 1 k (gathered k f) (gathered-lt k f) ∙ omega arith
+
+  pub bit-clear : f k ≡ false → byte ≡ gathered (k + 1) f
+  bit-clear t =
+      let q : gathered (k + 1) f ≡ gathered k f + 0 * 2 ^ k = ap (λ j. gathered j f) (add-one k) ∙ ap (λ b. gathered k f + digit b * 2 ^ k) t in
+      omega arith
+
+-- a list that is written from the front has there what was written
+pub over-at : (f : ℕ → ℕ) (k : ℕ) (l : List ℕ) (s : ℕ) → s < k → getD (over f k l) s 0 ≡ f s
+over-at f k l s h =
+    List·getD-append (map f (upTo k)) (drop k l) 0 s (rw (length-map-upTo f k) h) ∙ getD-upTo f k s 0 h
+
+module _ (n : ℕ) (order : List ℕ) (fits : n ≤ 10) where
+  pub places-index : (v : ℕ) → v < n → getD (placesOf n order) v 0 ≡ index eqb v (take n order)
+  unfolding placesOf
+  places-index v h =
+      let e : ltb v n ≡ true = lt-ltb v n h in
+      getD-upTo (λ w. cond (ltb w n) (index eqb w (take n order)) 0) 10 v 0 (omega arith)
+      ∙ ap (λ b. cond b (index eqb v (take n order)) 0) e
+
+  pub places-below : T (isOrder n (take n order)) → (v : ℕ) → v < n → getD (placesOf n order) v 0 < n
+  places-below o v h = rw (places-index v h) (index-below n (take n order) o v h)
+
+  pub row-behind : (s : ℕ) → rowOf n (placesOf n order) s ≡ behind n (take n order) s
+  unfolding behind
+  row-behind s =
+      number-cong n (λ v. bit n (getD (placesOf n order) v 0) s) (λ v. bit n (index eqb v (take n order)) s)
+      (λ v h. ap (λ p. bit n p s) (places-index v h))
+
+  -- Byte i of a plane holds the rows from 8 * i on, each below 2 ^ n, so that the map has the drawn row behind each.
+  plane-bytes : (plane : List ℕ) (base : ℕ) (row : ℕ → Row) (p : Row → Bool) → ((r : ℕ) → streamBit plane (base + r) ≡ p (row r)) → (l : List ℕ)
+      → gatheredPlane plane base (over (rowOf n (placesOf n order)) (2 ^ n) l) n ≡ pack p (draw n (λ s. row (behind n (take n order) s)) 0)
+  plane-bytes plane base row p e l =
+      let f : ℕ → ℕ = rowOf n (placesOf n order) in
+      let k : ℕ = min 8 (2 ^ n) in
+      map-upTo-cong (width n) (λ i. gathered k (λ b. streamBit plane (base + getD (over f (2 ^ n) l) (8 * i + b) 0)))
+      (λ i. gathered k (λ b. p (row (behind n (take n order) (8 * i + b)))))
+      (λ i h. gathered-cong k _ (λ b. p (row (behind n (take n order) (8 * i + b))))
+      (λ b q. let r : 8 * i + b < 2 ^ n = omega (arith, byte-within n i h) in
+      ap (λ x. streamBit plane (base + x)) (over-at f (2 ^ n) l (8 * i + b) r ∙ row-behind (8 * i + b))
+      ∙ e (behind n (take n order) (8 * i + b))))
+      ∙ sym (draw-bytes p n (λ s. row (behind n (take n order) s)))
+
+  -- what is gathered of output j is its part under the order
+  pub gathered-encode : (m : ℕ) (values care rows l : List ℕ) (j : ℕ) → rows ≡ over (rowOf n (placesOf n order)) (2 ^ n) l
+      → gatheredPart values care rows n j ≡ encode (reordered (tableOf n m values care) (take n order) j)
+  gathered-encode m values care rows l j e =
+      let t = tableOf n m values care in
+      ap (λ r. gatheredPart values care r n j) e
+      ∙ ap₂ _++_ (plane-bytes values (j * 2 ^ n) (t .row j) (λ r. r .value) (λ r. refl) l)
+      (plane-bytes care (j * 2 ^ n) (t .row j) (λ r. r .care) (λ r. refl) l)

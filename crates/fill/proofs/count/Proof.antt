@@ -1,0 +1,25 @@
+-- `fill::count` meets its contract. Assumes nothing.
+use borrow.Author.Needs.{needs}
+use denote.Ref.{now}
+use mathlib.Core.Path.{ap, _∙_}
+use Rattle.fill.specs.declared.Levels.{Levels}
+use Rattle.fill.proofs.CallLaws.{levels-answer}
+use Rattle.fill.proofs.count.Statement.{statement}
+use Rattle.fill.proofs.count.Tie as tie
+
+counts-requires : tie.Need-counts-requires
+counts-requires c κs = search needs
+
+same-length : tie.Need-same-length
+same-length c = search needs
+
+returns : tie.Need-returns
+returns c =
+    let r = c .before .before .counts in
+    let a = c .before .before .before .before .before .before .before .args in (
+      ap (λ (l : Levels). l .answer) (r .ensures .0) ∙ levels-answer (a .state) (now (a .values)) (now (a .care)) (now (a .work)),
+      r .ensures .1,
+    )
+
+pub count-spec : {M : Type 1} → statement M
+count-spec = tie.close (tie.spec counts-requires same-length returns)

@@ -1,0 +1,21 @@
+-- `fill::gather::width_of` meets its contract.
+-- Assumes nothing.
+use borrow.Author.Needs.{needs}
+use mathlib.Core.Path.{sym}
+use native.Mathlib.Omega.{arith}
+use Rattle.fill.proofs.PackLaws.{width-small}
+use Rattle.fill.proofs.Shifts.{width-shifted}
+use Rattle.fill.proofs.gather.width_of.Statement.{statement}
+use Rattle.fill.proofs.gather.width_of.Tie as tie
+
+returns : tie.Need-returns
+returns c = sym (width-small (c .before .args .n) (omega arith))
+
+shl-result : tie.Need-shl-result
+shl-result c = search needs
+
+returns-2 : tie.Need-returns-2
+returns-2 c = width-shifted (c .before .args .n) (c .if1 .left) (c .before .pre)
+
+pub width-of-spec : {M : Type 1} → statement M
+width-of-spec = tie.close (tie.spec returns shl-result returns-2)

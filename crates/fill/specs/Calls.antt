@@ -1,0 +1,69 @@
+-- What the calls of this crate answer and leave (document 01, sections 2, 3, 4 and 7).
+-- Assumes nothing.
+use mathlib.Core.Bool.{Bool, true, cond, not, _&&_}
+use mathlib.Core.List.{List, [], _∷_, map}
+use Prim.Native.Nat.{ℕ, zero, suc}
+use lib.Dec.{leb}
+use lib.ListN.{length, getD}
+use Rattle.diagram.specs.Lists.{upTo}
+use Rattle.diagram.specs.Tree.{Tree, halves}
+use Rattle.diagram.specs.Fill.{Row, level, trace}
+use Rattle.diagram.specs.Network.{counts}
+use Rattle.diagram.specs.Table.{Table, reordered, filled, cost}
+use Rattle.table.specs.declared.Answer.{Answer}
+use Rattle.table.specs.declared.Answer.the-variants.{Done, ShortBuffer, NoTable}
+use Rattle.table.specs.declared.State.{State}
+use Rattle.table.specs.Answer.{unless, done}
+use Rattle.table.specs.Stream.{tableOf}
+use Rattle.table.specs.State.{orderOf, stageOf, isNothing}
+use Rattle.table.specs.Calls.{planeSize}
+use Rattle.fill.specs.declared.Levels.{Levels}
+use Rattle.fill.specs.Work.{workSize, traceWork, zeroWork}
+
+-- the table in the lent bytes
+abbrev pub heldTable : State → List ℕ → List ℕ → Table
+heldTable s values care = tableOf (s .n) (s .m) values care
+
+-- 10 for the values, the care and the work buffer
+abbrev pub enough : List ℕ → List ℕ → List ℕ → Bool
+enough values care work = leb planeSize (length values) && (leb planeSize (length care) && leb workSize (length work))
+
+-- count: 10, then 21; the cells of the filled table's network under the state's order
+unfoldable pub countAnswer : State → List ℕ → List ℕ → List ℕ → Answer
+countAnswer s values care work =
+    unless (enough values care work) ShortBuffer
+    (unless (not (isNothing (stageOf s))) NoTable (Done (cost (heldTable s values care) (orderOf s))))
+
+-- the work buffer is zero after a success, as found after a refusal
+unfoldable pub countWork : State → List ℕ → List ℕ → List ℕ → List ℕ
+countWork s values care work = cond (done (countAnswer s values care work)) (zeroWork work) work
+
+-- the outputs as the levels see them: the candidates of level 0
+abbrev pub drawnOutputs : (s : State) → List ℕ → List ℕ → List (Tree Row (s .n))
+drawnOutputs s values care = map (reordered (heldTable s values care) (orderOf s)) (upTo (s .m))
+
+-- how many entries each level has
+unfoldable pub entryCounts : (d : ℕ) → List (Tree Row d) → List ℕ
+entryCounts zero fs = []
+entryCounts (suc d) fs = length (level true [] fs .entries) ∷ entryCounts d (halves (level true [] fs .entries))
+
+-- a list as ten numbers, with zeros past its end
+abbrev pub tenOf : List ℕ → List ℕ
+tenOf xs = map (λ k. getD xs k 0) (upTo 10)
+
+-- the answer of a count, with the entries and the cells of each level where it is a success
+unfoldable pub levelsOf : State → List ℕ → List ℕ → List ℕ → Levels
+levelsOf s values care work =
+    record {
+      answer = countAnswer s values care work;
+      entries = tenOf (cond (done (countAnswer s values care work)) (entryCounts (s .n) (drawnOutputs s values care)) []);
+      counts =
+          tenOf
+          (cond (done (countAnswer s values care work))
+          (counts true (s .n) (filled true (heldTable s values care) (orderOf s))) []);
+    }
+
+-- the work buffer with the links of the filling
+unfoldable pub linksWork : State → List ℕ → List ℕ → List ℕ → List ℕ
+linksWork s values care work =
+    cond (done (countAnswer s values care work)) (traceWork (trace true (s .n) (drawnOutputs s values care)) work) work

@@ -1,0 +1,42 @@
+-- The work buffer after a filling: the links of the levels, two bytes each, lowest first, behind two regions that are zero again.
+-- Assumes nothing.
+use mathlib.Core.Bool.{cond}
+use mathlib.Core.List.{List, [], _∷_, _++_}
+use Prim.Native.Nat.{ℕ, _+_, _-_, _/_, _%_}
+use lib.Dec.{leb}
+use lib.ListN.{length, drop, replicate}
+use Rattle.diagram.specs.Fill.{Link}
+use Rattle.fill.specs.Parts.{linkNumber}
+
+-- the bytes of the work buffer that a call uses, of a region for one level's entries, and where the links begin
+unfoldable pub workSize : ℕ
+workSize = 32768
+
+unfoldable pub regionSize : ℕ
+regionSize = 4096
+
+unfoldable pub linksAt : ℕ
+linksAt = 8192
+
+-- links as 16-bit numbers, low byte first
+abbrev pub linkBytes : List Link → List ℕ
+linkBytes [] = []
+linkBytes (k ∷ ks) = linkNumber k % 256 ∷ linkNumber k / 256 % 256 ∷ linkBytes ks
+
+abbrev pub joined : List (List Link) → List Link
+joined [] = []
+joined (ks ∷ kss) = ks ++ joined kss
+
+-- a work buffer that holds the links of a filling and nothing else; what lies past its size is as it was
+unfoldable pub traceWork : List (List Link) → List ℕ → List ℕ
+traceWork kss work =
+    replicate linksAt 0
+    ++ (linkBytes (joined kss) ++ (replicate (workSize - linksAt - length (linkBytes (joined kss))) 0 ++ drop workSize work))
+
+-- a work buffer that is zero; what lies past its size is as it was
+unfoldable pub zeroWork : List ℕ → List ℕ
+zeroWork work = replicate workSize 0 ++ drop workSize work
+
+-- the same, where it has its size; a shorter one is as it was
+unfoldable pub clearedWork : List ℕ → List ℕ
+clearedWork work = cond (leb workSize (length work)) (zeroWork work) work

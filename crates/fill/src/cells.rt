@@ -1,0 +1,66 @@
+// The cells of each level, counted from the links in the work buffer: an entry whose two links differ is a cell.
+use crate::LINKS;
+ghost use mathlib.Core.Path.{_≡_};
+ghost use mathlib.Core.List.{sum};
+ghost use Prim.Native.Nat.{_+_, _*_, _≤_};
+ghost use lib.ListN.{length, take};
+ghost use Rattle.fill.specs.Calls.{tenOf};
+ghost use Rattle.fill.specs.Counts.{pairDiffers, differingPairs, countsAt, linksEnd};
+
+// Whether the two links at place a differ.
+pub(crate) fn pair_differs(work: &[u8], a: usize) -> bool
+    requires { ⌜ a + 4 ≤ length (now work) ⌝ }
+    ensures { λ r. ⌜ r ≡ pairDiffers (now (work .entry)) a ⌝ }
+{
+    if work[a] != work[a + 2] {
+        return true;
+    }
+    work[a + 1] != work[a + 3]
+}
+
+// How many entries have two links that differ, the first's at place at.
+pub(crate) fn differing_pairs(work: &[u8], at: usize, pairs: usize) -> usize
+    requires { ⌜ at + 4 * pairs ≤ length (now work) ⌝ }
+    ensures { λ r. ⌜ r ≡ differingPairs (now (work .entry)) at pairs ⌝ }
+{
+    let mut count = 0;
+    let mut e = 0;
+    while e < pairs {
+        if pair_differs(work, at + 4 * e) {
+            count += 1;
+        }
+        e += 1;
+    }
+    count
+}
+
+// The cells of each of n levels, whose links lie behind those of m outputs.
+pub(crate) fn level_counts(n: usize, m: usize, entries: [usize; 10], work: &[u8]) -> [usize; 10]
+    requires { ⌜ (n ≤ 10) × (m ≤ 16) × (linksEnd (8192 + 2 * m) (take n entries) ≤ length (now work)) ⌝ }
+    ensures { λ r. ⌜ r ≡ tenOf (countsAt (now (work .entry)) (8192 + 2 * m) (take n entries)) ⌝ }
+{
+    let mut counts = [0usize; 10];
+    let mut at = LINKS + 2 * m;
+    let mut p = 0;
+    while p < n {
+        let pairs = entries[p];
+        counts[p] = differing_pairs(work, at, pairs);
+        at += 4 * pairs;
+        p += 1;
+    }
+    counts
+}
+
+// All of them.
+pub(crate) fn total(counts: [usize; 10]) -> usize
+    requires { ⌜ sum _+_ 0 counts ≤ 65535 ⌝ }
+    ensures { λ r. ⌜ r ≡ sum _+_ 0 counts ⌝ }
+{
+    let mut cells = 0;
+    let mut p = 0;
+    while p < 10 {
+        cells += counts[p];
+        p += 1;
+    }
+    cells
+}

@@ -1,0 +1,96 @@
+// The entries of a level, their parts one after the other in a region: a candidate is placed in the first that agrees, or behind them all.
+use crate::copy::copy_to;
+use crate::part::agree;
+use crate::part::always;
+use crate::part::merge;
+ghost use mathlib.Core.Path.{_≡_};
+ghost use mathlib.Core.List.{_++_};
+ghost use Prim.Native.Nat.{_+_, _*_, _≤_, _<_};
+ghost use lib.ListN.{length, take, drop};
+ghost use Rattle.fill.specs.Parts.{alongParts, candidatePart, linkNumber, chunks, flat};
+ghost use Rattle.fill.specs.Splice.{splice};
+ghost use Rattle.fill.specs.Tried.{triedLink, triedPart};
+
+// How many entries there are after a candidate, and the number of the candidate's link.
+pub(crate) struct Placed {
+    pub entries: usize,
+    pub link: usize,
+}
+
+// Tries entry e, plain and then inverted, and where one agrees merges the candidate f into it. Returns the link's number, or 0.
+pub(crate) fn try_entry(w: usize, f: &[u8], region: &mut [u8], e: usize) -> usize
+    requires { ⌜ 0 < w ⌝ }
+    requires { ⌜ length (now f) ≡ w + w ⌝ }
+    requires { ⌜ (e + 1) * (w + w) ≤ length (now region) ⌝ }
+    ensures { λ r. ⌜ r ≡ triedLink w e (now (f .entry)) (take (w + w) (drop (e * (w + w)) (now (region .entry)))) ⌝ }
+    ensures { λ _. ⌜ now (region .exit)
+        ≡ splice (now (region .entry)) (e * (w + w)) (triedPart w (now (f .entry)) (take (w + w) (drop (e * (w + w)) (now (region .entry))))) ⌝ }
+{
+    let a = e * (w + w);
+    let b = a + (w + w);
+    if agree(false, w, f, &region[a..b]) {
+        merge(false, w, f, &mut region[a..b]);
+        return 2 * (e + 1);
+    }
+    if agree(true, w, f, &region[a..b]) {
+        merge(true, w, f, &mut region[a..b]);
+        return 2 * (e + 1) + 1;
+    }
+    0
+}
+
+// Places the candidate f in the first of k entries that agrees, else behind them.
+pub(crate) fn along(w: usize, f: &[u8], region: &mut [u8], k: usize) -> Placed
+    requires { ⌜ 0 < w ⌝ }
+    requires { ⌜ length (now f) ≡ w + w ⌝ }
+    requires { ⌜ (k + 1) * (w + w) ≤ length (now region) ⌝ }
+    ensures entries { λ r. ⌜ r .entries ≡ length (alongParts w 0 (now (f .entry)) (chunks (w + w) k (now (region .entry))) .parts) ⌝ }
+    ensures link { λ r. ⌜ r .link ≡ linkNumber (alongParts w 0 (now (f .entry)) (chunks (w + w) k (now (region .entry))) .link) ⌝ }
+    ensures region { λ _. ⌜ now (region .exit)
+        ≡ flat (alongParts w 0 (now (f .entry)) (chunks (w + w) k (now (region .entry))) .parts)
+        ++ drop (length (alongParts w 0 (now (f .entry)) (chunks (w + w) k (now (region .entry))) .parts) * (w + w)) (now (region .entry)) ⌝ }
+{
+    let mut e = 0;
+    while e < k {
+        let link = try_entry(w, f, region, e);
+        if 0 < link {
+            return Placed {
+                entries: k,
+                link: link,
+            };
+        }
+        e += 1;
+    }
+    let end = k * (w + w);
+    copy_to(f, region, end);
+    Placed {
+        entries: k + 1,
+        link: 2 * (k + 1),
+    }
+}
+
+// Places the candidate f: as a constant where it is one, else along the k entries.
+pub(crate) fn candidate(w: usize, f: &[u8], region: &mut [u8], k: usize) -> Placed
+    requires { ⌜ 0 < w ⌝ }
+    requires { ⌜ length (now f) ≡ w + w ⌝ }
+    requires { ⌜ (k + 1) * (w + w) ≤ length (now region) ⌝ }
+    ensures entries { λ r. ⌜ r .entries ≡ length (candidatePart w (now (f .entry)) (chunks (w + w) k (now (region .entry))) .parts) ⌝ }
+    ensures link { λ r. ⌜ r .link ≡ linkNumber (candidatePart w (now (f .entry)) (chunks (w + w) k (now (region .entry))) .link) ⌝ }
+    ensures region { λ _. ⌜ now (region .exit)
+        ≡ flat (candidatePart w (now (f .entry)) (chunks (w + w) k (now (region .entry))) .parts)
+        ++ drop (length (candidatePart w (now (f .entry)) (chunks (w + w) k (now (region .entry))) .parts) * (w + w)) (now (region .entry)) ⌝ }
+{
+    if always(false, w, f) {
+        return Placed {
+            entries: k,
+            link: 0,
+        };
+    }
+    if always(true, w, f) {
+        return Placed {
+            entries: k,
+            link: 1,
+        };
+    }
+    along(w, f, region, k)
+}

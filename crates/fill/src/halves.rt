@@ -1,0 +1,98 @@
+// The halves of a part: the rows in which its top variable is 0, and those in which it is 1. A half has d variables.
+use crate::copy::copy_to;
+ghost use mathlib.Core.Path.{_≡_};
+ghost use mathlib.Core.List.{_++_};
+ghost use Prim.Native.Nat.{suc, _+_, _*_, _/_, _%_, _^_, _≤_, _<_};
+ghost use lib.ListN.{length, drop};
+ghost use Rattle.diagram.specs.Lists.{digit};
+ghost use Rattle.fill.specs.Pack.{width};
+ghost use Rattle.fill.specs.Parts.{halfPart};
+
+// How many bytes the rows of d variables take.
+pub(crate) fn width_of(d: usize) -> usize
+    requires { ⌜ d ≤ 10 ⌝ }
+    ensures { λ r. ⌜ r ≡ width d ⌝ }
+{
+    if d < 3 {
+        return 1;
+    }
+    1 << (d - 3)
+}
+
+// Two to the number of rows of d variables.
+pub(crate) fn modulus(d: usize) -> u8
+    requires { ⌜ d < 3 ⌝ }
+    ensures { λ r. ⌜ r ≡ 2 ^ (2 ^ d) ⌝ }
+{
+    if d == 0 {
+        return 2;
+    }
+    if d == 1 {
+        return 4;
+    }
+    16
+}
+
+// Half b of a byte that holds both halves.
+pub(crate) fn half_byte(b: bool, d: usize, x: u8) -> u8
+    requires { ⌜ d < 3 ⌝ }
+    ensures { λ r. ⌜ r ≡ x / 2 ^ (digit b * 2 ^ d) % 2 ^ (2 ^ d) ⌝ }
+{
+    let m = modulus(d);
+    if b {
+        return x / m % m;
+    }
+    x % m
+}
+
+// Half b of a part below a byte: its bits.
+pub(crate) fn take_bits(b: bool, d: usize, part: &[u8], cand: &mut [u8])
+    requires { ⌜ d < 3 ⌝ }
+    requires { ⌜ length (now part) ≡ width (suc d) + width (suc d) ⌝ }
+    requires { ⌜ width d + width d ≤ length (now cand) ⌝ }
+    ensures { λ _. ⌜ now (cand .exit) ≡ halfPart b d (now (part .entry)) ++ drop (width d + width d) (now (cand .entry)) ⌝ }
+{
+    cand[0] = half_byte(b, d, part[0]);
+    cand[1] = half_byte(b, d, part[1]);
+}
+
+// n where b is true, else 0.
+pub(crate) fn where_true(b: bool, n: usize) -> usize
+    ensures { λ r. ⌜ r ≡ digit b * n ⌝ }
+{
+    if b {
+        return n;
+    }
+    0
+}
+
+// Half b of a part of whole bytes: those of its values, and those of its care.
+pub(crate) fn take_bytes(b: bool, d: usize, part: &[u8], cand: &mut [u8])
+    requires { ⌜ 3 ≤ d ⌝ }
+    requires { ⌜ d < 10 ⌝ }
+    requires { ⌜ length (now part) ≡ width (suc d) + width (suc d) ⌝ }
+    requires { ⌜ width d + width d ≤ length (now cand) ⌝ }
+    ensures { λ _. ⌜ now (cand .exit) ≡ halfPart b d (now (part .entry)) ++ drop (width d + width d) (now (cand .entry)) ⌝ }
+{
+    let w = width_of(d);
+    let values = where_true(b, w);
+    let values_end = values + w;
+    copy_to(&part[values..values_end], cand, 0);
+    let care = w + w + values;
+    let care_end = care + w;
+    copy_to(&part[care..care_end], cand, w);
+}
+
+// Half b of a part, to the front of cand.
+pub(crate) fn take_half(b: bool, d: usize, part: &[u8], cand: &mut [u8])
+    requires { ⌜ d < 10 ⌝ }
+    requires { ⌜ length (now part) ≡ width (suc d) + width (suc d) ⌝ }
+    requires { ⌜ width d + width d ≤ length (now cand) ⌝ }
+    ensures { λ _. ⌜ now (cand .exit) ≡ halfPart b d (now (part .entry)) ++ drop (width d + width d) (now (cand .entry)) ⌝ }
+{
+    if d < 3 {
+        take_bits(b, d, part, cand);
+        return;
+    }
+    take_bytes(b, d, part, cand);
+}

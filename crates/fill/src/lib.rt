@@ -1,0 +1,101 @@
+// Filling and counting in a lent work buffer (document 01, section 3).
+mod bytes;
+mod cells;
+mod copy;
+mod descent;
+mod entries;
+mod filling;
+mod gather;
+mod halves;
+mod level;
+mod outputs;
+mod part;
+
+use crate::filling::fill_held;
+use crate::outputs::zero;
+use table::Answer;
+use table::PLANE;
+use table::State;
+use table::valid::holds_table;
+ghost use mathlib.Core.Path.{_≡_};
+ghost use Rattle.fill.specs.Work.{clearedWork};
+ghost use Rattle.fill.specs.Calls.{countAnswer, countWork, levelsOf, linksWork};
+ghost use Rattle.fill.specs.Filling.{refusedLevels};
+
+// The bytes of a region for one level's entries, the place of the first link behind two regions, and the bytes of the work buffer.
+const REGION: usize = 4096;
+
+const LINKS: usize = 8192;
+
+pub const WORK: usize = 32768;
+
+// What a filling answers: the cells in all, and the entries and the cells of each level.
+pub struct Levels {
+    pub answer: Answer,
+    pub entries: [usize; 10],
+    pub counts: [usize; 10],
+}
+
+// An answer with no level.
+fn refused(answer: Answer) -> Levels
+    ensures { λ r. ⌜ r ≡ refusedLevels answer ⌝ }
+{
+    Levels {
+        answer,
+        entries: [0usize; 10],
+        counts: [0usize; 10],
+    }
+}
+
+// Fills the held table, and leaves the links of its levels in the work buffer. Refuses with 10, then 21; a refusal leaves the work buffer.
+pub fn links(state: State, values: &[u8], care: &[u8], work: &mut [u8]) -> Levels
+    ensures levels { λ r. ⌜ r ≡ levelsOf state (now (values .entry)) (now (care .entry)) (now (work .entry)) ⌝ }
+    ensures work { λ _. ⌜ now (work .exit) ≡ linksWork state (now (values .entry)) (now (care .entry)) (now (work .entry)) ⌝ }
+{
+    if values.len() < PLANE {
+        return refused(Answer::ShortBuffer);
+    }
+    if care.len() < PLANE {
+        return refused(Answer::ShortBuffer);
+    }
+    if work.len() < WORK {
+        return refused(Answer::ShortBuffer);
+    }
+    if !holds_table(state) {
+        return refused(Answer::NoTable);
+    }
+    fill_held(state, values, care, work)
+}
+
+// Makes a work buffer of its size zero.
+pub fn clear(work: &mut [u8])
+    ensures { λ _. ⌜ now (work .exit) ≡ clearedWork (now (work .entry)) ⌝ }
+{
+    if work.len() < WORK {
+        return;
+    }
+    zero(0, WORK, work);
+}
+
+// Counts the cells of each level of the held table's network. A success leaves the work buffer zero.
+pub fn counts(state: State, values: &[u8], care: &[u8], work: &mut [u8]) -> Levels
+    ensures levels { λ r. ⌜ r ≡ levelsOf state (now (values .entry)) (now (care .entry)) (now (work .entry)) ⌝ }
+    ensures work { λ _. ⌜ now (work .exit) ≡ countWork state (now (values .entry)) (now (care .entry)) (now (work .entry)) ⌝ }
+{
+    let levels = links(state, values, care, work);
+    let answer = levels.answer;
+    match answer {
+        Answer::Done(_) => clear(work),
+        _ => {}
+    }
+    levels
+}
+
+// Counts the cells of the held table's network.
+pub fn count(state: State, values: &[u8], care: &[u8], work: &mut [u8]) -> Answer
+    ensures answer { λ r. ⌜ r ≡ countAnswer state (now (values .entry)) (now (care .entry)) (now (work .entry)) ⌝ }
+    ensures work { λ _. ⌜ now (work .exit) ≡ countWork state (now (values .entry)) (now (care .entry)) (now (work .entry)) ⌝ }
+{
+    let levels = counts(state, values, care, work);
+    levels.answer
+}
