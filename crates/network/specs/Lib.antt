@@ -1,3 +1,5 @@
 pub mod Lent
 pub mod Evaluate
 pub mod Cells
+pub mod Levels
+pub mod Build

@@ -1,7 +1,11 @@
 // Building a network in lent cells, and evaluating lent cells (document 01, section 4).
+pub mod build;
 mod cells;
 pub mod evaluate;
 mod follow;
+mod levels;
+mod links;
+mod roots;
 
 // How many roots are lent.
 pub const ROOTS: usize = 16;

@@ -1,0 +1,102 @@
+-- After a build, evaluating any row gives the filled table's bits.
+-- Assumes nothing.
+use mathlib.Core.Path.{_≡_, refl, ap, ap₂, _∙_, subst}
+use mathlib.Core.Bool.{Bool, true, not}
+use mathlib.Core.List.{List, [], _∷_, _++_, map}
+use Prim.Native.Nat.{ℕ, zero, suc, _+_, _*_, _/_, _^_, _≤_, _<_}
+use native.Mathlib.Nat.{le-step, lt-suc-self}
+use native.Mathlib.Omega.{arith}
+use lib.Dec.{T}
+use borrow.Author.Tests.{le-leb, lt-ltb}
+use lib.ListN.{length, getD, drop, length-append, List·getD-append}
+use Rattle.diagram.specs.Lists.{digit, upTo}
+use Rattle.diagram.specs.Diagram.{Node, Diagram, wellFormed, gives}
+use Rattle.diagram.specs.Order.{rowUnder}
+use Rattle.diagram.specs.Table.{filledBit, Computes}
+use Rattle.diagram.proofs.Bools.{split, of-T}
+use Rattle.diagram.proofs.Demands.{right}
+use Rattle.table.specs.declared.State.{State}
+use Rattle.table.specs.declared.Answer.the-variants.{Done}
+use Rattle.table.specs.State.{goodHeading, orderOf, stageOf, isNothing, isNetwork}
+use Rattle.table.specs.Calls.{over}
+use Rattle.table.proofs.Held.{few-outputs, stage-bad}
+use Rattle.fill.specs.Calls.{heldTable}
+use Rattle.fill.proofs.UpTo.{length-map-upTo, getD-upTo}
+use Rattle.network.specs.Lent.{lentDiagram, numbersOf, rootsSize}
+use Rattle.network.specs.Levels.{networkState}
+use Rattle.network.specs.Evaluate.{outputsOf, goodCells, rowOutputs, evaluateAnswer}
+use Rattle.network.specs.Build.{heldNetwork, wanted}
+use Rattle.network.proofs.RootTurns.{roots-size}
+use Rattle.network.proofs.HeldRead.{wanted-nodes}
+use Rattle.network.proofs.LentNetwork.{lent-network}
+
+outputs-same : (m : ℕ) (f g : ℕ → Bool) → ((j : ℕ) → j < m → f j ≡ g j) → outputsOf m f ≡ outputsOf m g
+outputs-same zero f g e = refl
+outputs-same (suc m) f g e =
+    ap₂ _+_ (outputs-same m f g (λ j h. e j (le-step h))) (ap (λ (b : Bool). digit b * 2 ^ m) (e m (lt-suc-self m)))
+
+numbers-length : (cs : List Node) → length (numbersOf cs) ≡ 3 * length cs
+numbers-length [] = refl
+numbers-length (c ∷ cs) = omega (arith, numbers-length cs)
+
+-- the state that a build leaves holds a network
+network-stage : (s : State) (count : ℕ) → T (not (isNothing (stageOf s))) → isNetwork (stageOf (networkState s count)) ≡ true
+unfolding stageOf
+network-stage s count held =
+    split (goodHeading (s .n) (s .m) (orderOf s)) (λ e. rw e)
+    (λ e. absurd (subst (λ st. T (not (isNothing st))) (stage-bad s e) held))
+
+-- the cells and the roots that a build leaves
+abbrev pub builtCells : State → List ℕ → List ℕ → List ℕ → List ℕ
+builtCells s values care cells = numbersOf (heldNetwork s values care .nodes) ++ drop (3 * wanted s values care) cells
+
+abbrev pub builtRoots : State → List ℕ → List ℕ → List ℕ → List ℕ
+builtRoots s values care roots = over (λ j. getD (heldNetwork s values care .roots) j 0) rootsSize roots
+
+module _ (s : State) (values care roots cells : List ℕ) (held : T (not (isNothing (stageOf s))))
+    (long : 16 ≤ length roots) (row : ℕ) (known : row < 2 ^ s .n) where
+  roots-long : 16 ≤ length (builtRoots s values care roots)
+  roots-long =
+      let f : ℕ → ℕ = λ j. getD (heldNetwork s values care .roots) j 0 in
+      omega (arith, length-append (map f (upTo rootsSize)) (drop rootsSize roots), length-map-upTo f rootsSize, roots-size)
+
+  cells-enough : wanted s values care ≤ length (builtCells s values care cells) / 3
+  cells-enough =
+      let N = heldNetwork s values care .nodes in
+      omega (arith, length-append (numbersOf N) (drop (3 * wanted s values care) cells), numbers-length N, wanted-nodes s values care)
+
+  formed : wellFormed true (s .n) (s .m) (lentDiagram (wanted s values care) (s .m) (builtCells s values care cells) (builtRoots s values care roots)) ≡ true
+  unfolding heldNetwork
+  formed =
+      ap (wellFormed true (s .n) (s .m)) (lent-network s values care held cells roots)
+      ∙ of-T (right true (heldTable s values care) (orderOf s) .formed)
+
+  good : goodCells (networkState s (wanted s values care)) (builtRoots s values care roots) (builtCells s values care cells) ≡ true
+  unfolding goodCells
+  good = rw (le-leb (wanted s values care) (length (builtCells s values care cells) / 3) cells-enough, formed)
+
+  root-there : (j : ℕ) → j < s .m → getD (builtRoots s values care roots) j 0 ≡ getD (heldNetwork s values care .roots) j 0
+  root-there j h =
+      let f : ℕ → ℕ = λ k. getD (heldNetwork s values care .roots) k 0 in
+      let b : j < rootsSize = omega (arith, few-outputs s held, roots-size) in
+      List·getD-append (map f (upTo rootsSize)) (drop rootsSize roots) 0 j (omega (arith, length-map-upTo f rootsSize)) ∙ getD-upTo f rootsSize j 0 b
+
+  -- every row's outputs are the filled table's
+  pub built-row : rowOutputs (networkState s (wanted s values care)) row (builtRoots s values care roots) (builtCells s values care cells)
+      ≡ outputsOf (s .m) (λ j. filledBit true (heldTable s values care) (orderOf s) j row)
+  unfolding rowOutputs heldNetwork Computes
+  built-row =
+      let D = lentDiagram (wanted s values care) (s .m) (builtCells s values care cells) (builtRoots s values care roots) in
+      outputs-same (s .m) (λ j. gives true D (rowUnder (s .n) (orderOf s) row) (s .n) (getD (builtRoots s values care roots) j 0))
+      (λ j. filledBit true (heldTable s values care) (orderOf s) j row)
+      (λ j h.
+      ap₂ (λ (E : Diagram) (r : ℕ). gives true E (rowUnder (s .n) (orderOf s) row) (s .n) r) (lent-network s values care held cells roots) (root-there j h)
+      ∙ right true (heldTable s values care) (orderOf s) .computes j row h known)
+
+  -- so evaluating after a build answers them
+  pub evaluate-built : evaluateAnswer (networkState s (wanted s values care)) row (builtRoots s values care roots) (builtCells s values care cells)
+      ≡ Done (outputsOf (s .m) (λ j. filledBit true (heldTable s values care) (orderOf s) j row))
+  unfolding evaluateAnswer
+  evaluate-built =
+      rw (le-leb rootsSize (length (builtRoots s values care roots)) (omega (arith, roots-long, roots-size)), network-stage s (wanted s values care) held, lt-ltb row (2 ^ s .n) known, good)
+      (ap Done built-row)

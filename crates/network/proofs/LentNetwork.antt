@@ -1,0 +1,107 @@
+-- Cells and roots that hold a network, read as a diagram, are that network; and of a held table's network demands 2 and 3 hold.
+-- Assumes nothing.
+use mathlib.Core.Path.{_≡_, refl, sym, ap, ap₂, _∙_}
+use mathlib.Core.Bool.{true, not}
+use mathlib.Core.List.{List, [], _∷_, _++_, map}
+use Prim.Native.Nat.{ℕ, zero, suc, _+_, _*_, _≤_, _<_}
+use native.Mathlib.Nat.{not-suc-le-zero, le-of-suc-le-suc}
+use native.Mathlib.Omega.{arith}
+use lib.Dec.{T, eqb→eq}
+use lib.ListN.{length, getD, take, drop, List·getD-append, length-append}
+use lib.Seq.{ext-getD, length-take-le, getD-take}
+use Rattle.diagram.specs.Lists.{upTo}
+use Rattle.diagram.specs.Diagram.{Node}
+use Rattle.diagram.specs.Network.{count}
+use Rattle.diagram.specs.Table.{networkOf, cost, Computes}
+use Rattle.diagram.specs.Demands.{FitsFrom}
+use Rattle.diagram.proofs.Evaluate.{formed-length}
+use Rattle.diagram.proofs.Demands.{kept, right, least-cost, fits}
+use Rattle.table.specs.declared.State.{State}
+use Rattle.table.specs.State.{orderOf, stageOf, isNothing}
+use Rattle.table.specs.Calls.{over}
+use Rattle.table.proofs.Held.{few-outputs, ordered}
+use Rattle.fill.specs.Calls.{heldTable}
+use Rattle.fill.proofs.UpTo.{length-map-upTo, getD-upTo}
+use Rattle.network.specs.Lent.{lentNode, lentDiagram, numbersOf, rootsSize}
+use Rattle.network.specs.Build.{heldNetwork, wanted, Built, FitDecides}
+use Rattle.network.proofs.RootTurns.{roots-size}
+use Rattle.network.proofs.HeldRead.{wanted-nodes}
+
+abbrev node : ℕ → ℕ → ℕ → Node
+node p l h = record { level = p; low = l; high = h }
+
+-- cell i of stored nodes is node i
+lent-at : (ns : List Node) (rest : List ℕ) (d : Node) (i : ℕ) → i < length ns → lentNode (numbersOf ns ++ rest) i ≡ getD ns i d
+lent-at [] rest d i h = absurd (not-suc-le-zero h)
+lent-at (c ∷ ns) rest d zero h = refl
+lent-at (c ∷ ns) rest d (suc i) h =
+    let l = numbersOf (c ∷ ns) ++ rest in
+    let e : 3 * suc i ≡ suc (suc (suc (3 * i))) = omega arith in
+    let e₁ : 3 * suc i + 1 ≡ suc (suc (suc (3 * i + 1))) = omega arith in
+    let e₂ : 3 * suc i + 2 ≡ suc (suc (suc (3 * i + 2))) = omega arith in
+    ap₂ (λ x y. node (getD l x 0) (getD l y 0) (getD l (3 * suc i + 2) 0)) e e₁
+    ∙ ap (λ x. node (getD l (suc (suc (suc (3 * i)))) 0) (getD l (suc (suc (suc (3 * i + 1)))) 0) (getD l x 0)) e₂
+    ∙ lent-at ns rest d i (le-of-suc-le-suc h)
+
+lent-nodes : (ns : List Node) (rest : List ℕ) → map (lentNode (numbersOf ns ++ rest)) (upTo (length ns)) ≡ ns
+lent-nodes ns rest =
+    let f = lentNode (numbersOf ns ++ rest) in
+    ext-getD (node 0 0 0) (map f (upTo (length ns))) ns (length-map-upTo f (length ns))
+    (λ i h. let k : i < length ns = omega (arith, length-map-upTo f (length ns)) in
+    getD-upTo f (length ns) i (node 0 0 0) k ∙ lent-at ns rest (node 0 0 0) i k)
+
+-- the first m of some numbers written over others are those
+taken : (l : List ℕ) (k : ℕ) (rest : List ℕ) → length l ≤ k → take (length l) (over (λ j. getD l j 0) k rest) ≡ l
+taken l k rest h =
+    let f : ℕ → ℕ = λ j. getD l j 0 in
+    let e : length (take (length l) (over f k rest)) ≡ length l =
+    length-take-le (length l) (over f k rest) (omega (arith, length-append (map f (upTo k)) (drop k rest), length-map-upTo f k)) in
+    ext-getD 0 (take (length l) (over f k rest)) l e
+    (λ i a. let b : i < length l = omega (arith, e) in
+    getD-take (length l) (over f k rest) i 0 b ∙ List·getD-append (map f (upTo k)) (drop k rest) 0 i (omega (arith, length-map-upTo f k))
+    ∙ getD-upTo f k i 0 (omega arith))
+
+module _ (s : State) (values care : List ℕ) (held : T (not (isNothing (stageOf s)))) where
+  roots-length : length (heldNetwork s values care .roots) ≡ s .m
+  unfolding heldNetwork
+  roots-length =
+      let t = heldTable s values care in
+      let D = networkOf true t (orderOf s) in
+      eqb→eq (length (D .roots)) (s .m) (formed-length true (s .n) (s .m) D (right true t (orderOf s) .formed))
+
+  pub lent-network : (cells roots : List ℕ)
+      → lentDiagram (wanted s values care) (s .m) (numbersOf (heldNetwork s values care .nodes) ++ drop (3 * wanted s values care) cells)
+      (over (λ j. getD (heldNetwork s values care .roots) j 0) rootsSize roots)
+      ≡ heldNetwork s values care
+  unfolding lentDiagram
+  lent-network cells roots =
+      let D = heldNetwork s values care in
+      let rest = drop (3 * wanted s values care) cells in
+      ap₂ (λ (x : List Node) (y : List ℕ). record { nodes = x; roots = y })
+      (ap (λ n. map (lentNode (numbersOf (D .nodes) ++ rest)) (upTo n)) (wanted-nodes s values care) ∙ lent-nodes (D .nodes) rest)
+      (ap (λ n. take n (over (λ j. getD (D .roots) j 0) rootsSize roots)) (sym roots-length)
+      ∙ taken (D .roots) rootsSize roots (omega (arith, roots-length, few-outputs s held, roots-size)))
+
+  built-held : Built s values care (wanted s values care) (heldNetwork s values care)
+  unfolding heldNetwork wanted Computes
+  built-held =
+      let t = heldTable s values care in
+      let o = ordered s held in
+      record {
+        filled = right true t (orderOf s) .computes;
+        kept = kept true t (orderOf s) o;
+        written = sym (wanted-nodes s values care);
+        least = least-cost t (orderOf s) o;
+      }
+
+  -- demand 2 and demand 3's least of the cells and the roots that a build leaves
+  pub built-lent : (count : ℕ) (cells roots cells′ roots′ : List ℕ) → count ≡ wanted s values care
+      → cells′ ≡ numbersOf (heldNetwork s values care .nodes) ++ drop (3 * wanted s values care) cells
+      → roots′ ≡ over (λ j. getD (heldNetwork s values care .roots) j 0) rootsSize roots
+      → Built s values care count (lentDiagram count (s .m) cells′ roots′)
+  built-lent count cells roots cells′ roots′ e ec er = rw (e, ec, er, lent-network cells roots) built-held
+
+  -- demand 3's fit
+  pub fit-held : (board : ℕ) → FitDecides s values care board
+  unfolding FitDecides FitsFrom wanted cost
+  fit-held board = fits true (heldTable s values care) (orderOf s) (ordered s held) board

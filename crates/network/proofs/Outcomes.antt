@@ -1,0 +1,188 @@
+-- What a build answers and leaves, by what the count answers and by the board.
+-- Assumes nothing.
+use mathlib.Core.Path.{_≡_, refl, sym, ap, _∙_}
+use mathlib.Core.Bool.{Bool, true, false, not, _&&_, _||_}
+use mathlib.Core.List.{List, [], _∷_, _++_}
+use Prim.Native.Nat.{ℕ, _*_, _≤_, _<_}
+use native.Mathlib.Omega.{arith}
+use borrow.Author.Tests.{le-leb, lt-leb}
+use types.Run.{OneOf, miss}
+use denote.Enum.Declared.{tagOf}
+use lib.Dec.{T, eqb, leb}
+use lib.ListN.{length, getD, drop}
+use Rattle.diagram.specs.Table.{filled, cost}
+use Rattle.diagram.specs.Fill.{trace}
+use Rattle.diagram.specs.Network.{counts}
+use Rattle.diagram.proofs.Bools.{split, to-T, absurd-T}
+use Rattle.table.specs.declared.Answer.{Answer}
+use Rattle.table.specs.declared.Answer.the-variants.{Done, BadLength, BadCheck, BadKind, BadInputs, BadOutputs, BadOrder, BadContent, NoRow, NoPlace, ShortBuffer, NoTable, NoNetwork, TooSmall, BadCells}
+use Rattle.table.specs.declared.State.{State}
+use Rattle.table.specs.Answer.{unless, done, number, value}
+use Rattle.table.specs.State.{orderOf, stageOf, isNothing}
+use Rattle.table.specs.Calls.{planeSize, over}
+use Rattle.table.proofs.Answer.{the-type}
+use Rattle.fill.specs.Work.{workSize, traceWork, zeroWork}
+use Rattle.fill.specs.Calls.{heldTable, enough, countAnswer, levelsOf, linksWork, entryCounts, drawnOutputs, tenOf}
+use Rattle.network.specs.Lent.{numbersOf, rootsSize}
+use Rattle.network.specs.Levels.{networkState}
+use Rattle.network.specs.Build.{heldNetwork, wanted, capacity, buildAnswer, buildOutcome, buildRoots, buildCells, buildWork}
+use Rattle.network.proofs.RootTurns.{roots-size}
+
+-- every answer but a success
+pub told-refused : (a : Answer) → OneOf (1 ∷ 2 ∷ 3 ∷ 4 ∷ 5 ∷ 6 ∷ 7 ∷ 8 ∷ 9 ∷ 10 ∷ 11 ∷ 12 ∷ 13 ∷ 14 ∷ []) (tagOf the-type a) → done a ≡ false
+told-refused (Done v) t = absurd (miss (1 ∷ 2 ∷ 3 ∷ 4 ∷ 5 ∷ 6 ∷ 7 ∷ 8 ∷ 9 ∷ 10 ∷ 11 ∷ 12 ∷ 13 ∷ 14 ∷ []) 0 tt t)
+told-refused BadLength t = refl
+told-refused BadCheck t = refl
+told-refused BadKind t = refl
+told-refused BadInputs t = refl
+told-refused BadOutputs t = refl
+told-refused BadOrder t = refl
+told-refused BadContent t = refl
+told-refused NoRow t = refl
+told-refused NoPlace t = refl
+told-refused ShortBuffer t = refl
+told-refused NoTable t = refl
+told-refused NoNetwork t = refl
+told-refused (TooSmall v) t = refl
+told-refused BadCells t = refl
+
+and-last : (a b c d : Bool) → d ≡ false → (a && (b && (c && d))) ≡ false
+and-last true true true d e = e
+and-last true true false d e = refl
+and-last true false c d e = refl
+and-last false b c d e = refl
+
+and-more : (a b c d : Bool) → d ≡ true → (a && (b && (c && d))) ≡ (a && (b && c))
+and-more true true true d e = e
+and-more true true false d e = refl
+and-more true false c d e = refl
+and-more false b c d e = refl
+
+module _ (s : State) (values care work roots cells : List ℕ) where
+  abbrev answered : Answer
+  answered = buildAnswer s values care work roots cells
+
+  abbrev counted : Answer
+  counted = countAnswer s values care work
+
+  abbrev isHeld : Bool
+  isHeld = not (isNothing (stageOf s))
+
+  -- 10 for the roots
+  pub roots-short : length roots < 16 → answered ≡ ShortBuffer
+  unfolding buildAnswer
+  roots-short h =
+      rw (and-last (leb planeSize (length values)) (leb planeSize (length care)) (leb workSize (length work)) (leb rootsSize (length roots))
+      (lt-leb rootsSize (length roots) (omega (arith, roots-size))))
+
+  module _ (h : 16 ≤ length roots) where
+    -- then what the count refuses, then 23
+    answer-is : answered
+        ≡ unless (enough values care work) ShortBuffer
+        (unless isHeld NoTable (unless (leb (wanted s values care) (capacity cells)) (TooSmall (wanted s values care)) (Done (wanted s values care))))
+    unfolding buildAnswer
+    answer-is =
+        rw (and-more (leb planeSize (length values)) (leb planeSize (length care)) (leb workSize (length work)) (leb rootsSize (length roots))
+        (le-leb rootsSize (length roots) (omega (arith, roots-size))))
+
+    pub count-refused : done counted ≡ false → (answered ≡ counted) × ((done counted || eqb (number counted) 23) ≡ false)
+    unfolding countAnswer
+    count-refused e =
+        split (enough values care work)
+        (λ a. split isHeld
+        (λ b. absurd-T {b = true} tt (rw (a, b) at e))
+        (λ b. (answer-is ∙ rw (a, b), rw (a, b))))
+        (λ a. (answer-is ∙ rw a, rw a))
+
+    -- where the count is a success, the board decides
+
+    pub count-done : (total : ℕ) → counted ≡ Done total → T isHeld × (total ≡ wanted s values care)
+    unfolding countAnswer wanted
+    count-done total e =
+        split (enough values care work)
+        (λ a. split isHeld
+        (λ b. let q : Done (cost (heldTable s values care) (orderOf s)) ≡ Done total = rw (a, b) at e in (to-T b, sym (ap value q)))
+        (λ b. let q : NoTable ≡ Done total = rw (a, b) at e in
+        let z : _≡_ {A = ℕ} 21 0 = ap number q in absurd (omega arith)))
+        (λ a. let q : ShortBuffer ≡ Done total = rw a at e in
+        let z : _≡_ {A = ℕ} 10 0 = ap number q in absurd (omega arith))
+
+    both : counted ≡ Done (wanted s values care)
+        → answered ≡ unless (leb (wanted s values care) (capacity cells)) (TooSmall (wanted s values care)) (Done (wanted s values care))
+    unfolding countAnswer
+    both e =
+        split (enough values care work)
+        (λ a. split isHeld (λ b. answer-is ∙ rw (a, b))
+        (λ b. let q : NoTable ≡ Done (wanted s values care) = rw (a, b) at e in
+        let z : _≡_ {A = ℕ} 21 0 = ap number q in absurd (omega arith)))
+        (λ a. let q : ShortBuffer ≡ Done (wanted s values care) = rw a at e in
+        let z : _≡_ {A = ℕ} 10 0 = ap number q in absurd (omega arith))
+
+    pub too-small : counted ≡ Done (wanted s values care) → capacity cells < wanted s values care → answered ≡ TooSmall (wanted s values care)
+    too-small e b = both e ∙ rw (lt-leb (wanted s values care) (capacity cells) b)
+
+    pub room-enough : counted ≡ Done (wanted s values care) → wanted s values care ≤ capacity cells → answered ≡ Done (wanted s values care)
+    room-enough e b = both e ∙ rw (le-leb (wanted s values care) (capacity cells) b)
+
+  -- what a refusal leaves
+
+  module _ (x : Answer) (e : answered ≡ x) (d : done x ≡ false) where
+    pub refused-outcome : record { answer = x; state = s } ≡ buildOutcome s values care work roots cells
+    unfolding buildOutcome
+    refused-outcome = rw (e, d)
+
+    pub refused-roots : roots ≡ buildRoots s values care work roots cells
+    unfolding buildRoots
+    refused-roots = rw (e, d)
+
+    pub refused-cells : cells ≡ buildCells s values care work roots cells
+    unfolding buildCells
+    refused-cells = rw (e, d)
+
+  pub work-kept : (x : Answer) → answered ≡ x → (done x || eqb (number x) 23) ≡ false → work ≡ buildWork s values care work roots cells
+  unfolding buildWork
+  work-kept x e d = rw (e, d)
+
+  pub work-cleared : (x : Answer) → answered ≡ x → (done x || eqb (number x) 23) ≡ true → zeroWork work ≡ buildWork s values care work roots cells
+  unfolding buildWork
+  work-cleared x e d = rw (e, d)
+
+  -- and a success
+
+  module _ (e : answered ≡ Done (wanted s values care)) where
+    pub done-outcome : record { answer = Done (wanted s values care); state = networkState s (wanted s values care) }
+        ≡ buildOutcome s values care work roots cells
+    unfolding buildOutcome
+    done-outcome = rw e
+
+    pub done-roots : over (λ j. getD (heldNetwork s values care .roots) j 0) rootsSize roots ≡ buildRoots s values care work roots cells
+    unfolding buildRoots
+    done-roots = rw e
+
+    pub done-cells : numbersOf (heldNetwork s values care .nodes) ++ drop (3 * wanted s values care) cells ≡ buildCells s values care work roots cells
+    unfolding buildCells
+    done-cells = rw e
+
+-- what the filling leaves where the count is a success, and where it isn't
+
+module _ (s : State) (values care work : List ℕ) where
+  pub links-kept-work : done (countAnswer s values care work) ≡ false → linksWork s values care work ≡ work
+  unfolding linksWork
+  links-kept-work e = rw e
+
+  module _ (total : ℕ) (e : countAnswer s values care work ≡ Done total) where
+    pub links-traced : linksWork s values care work ≡ traceWork (trace true (s .n) (drawnOutputs s values care)) work
+    unfolding linksWork
+    links-traced = rw e
+
+    pub levels-entries : levelsOf s values care work .entries ≡ tenOf (entryCounts (s .n) (drawnOutputs s values care))
+    unfolding levelsOf
+    levels-entries = rw e
+
+    pub levels-counts : levelsOf s values care work .counts ≡ tenOf (counts true (s .n) (filled true (heldTable s values care) (orderOf s)))
+    unfolding levelsOf
+    levels-counts = rw e
+
+  pub levels-answer : levelsOf s values care work .answer ≡ countAnswer s values care work
+  unfolding levelsOf
+  levels-answer = refl

@@ -1,0 +1,63 @@
+-- Words of the work buffer: one put and read again, what it leaves as it was, and several numbers stored one after the other.
+-- Assumes nothing.
+use mathlib.Core.Path.{_≡_, refl, ap, ap₂, _∙_}
+use mathlib.Core.List.{List, [], _∷_, _++_}
+use mathlib.Core.Logic.{_≢_}
+use Prim.Native.Nat.{ℕ, suc, _+_, _*_, _/_, _%_, _≤_, _<_}
+use native.Mathlib.Nat.{add-zero}
+use native.Mathlib.Omega.{arith}
+use lib.ListN.{length, getD, set, length-set}
+use lib.Seq.{sets, getD-set-same, getD-set-other, set-comm}
+use Rattle.network.specs.Levels.{wordAt, putWord}
+
+-- the bytes below a and from b on are the same
+pub record Outside (w w′ : List ℕ) (a b : ℕ) : Type 0 where
+  pub under : (j : ℕ) → j < a → getD w′ j 0 ≡ getD w j 0
+  pub past : (j : ℕ) → b ≤ j → getD w′ j 0 ≡ getD w j 0
+
+pub same-word : (w w′ : List ℕ) (i : ℕ) → getD w′ i 0 ≡ getD w i 0 → getD w′ (i + 1) 0 ≡ getD w (i + 1) 0 → wordAt w′ i ≡ wordAt w i
+same-word w w′ i low high = ap₂ (λ x y. x + 256 * y) low high
+
+pub outside-none : (w : List ℕ) (a b : ℕ) → Outside w w a b
+outside-none w a b = record { under = λ j h. refl; past = λ j h. refl }
+
+pub outside-join : {w w′ w″ : List ℕ} {a b c d e f : ℕ} → e ≤ a → e ≤ c → b ≤ f → d ≤ f → Outside w w′ a b → Outside w′ w″ c d → Outside w w″ e f
+outside-join {w} {w′} {w″} {a} {b} {c} {d} {e} {f} ha hc hb hd o o′ =
+    record {
+      under = λ j h. o′ .under j (omega arith) ∙ o .under j (omega arith);
+      past = λ j h. o′ .past j (omega arith) ∙ o .past j (omega arith);
+    }
+
+module _ (w : List ℕ) (i x : ℕ) where
+  put-other : (j : ℕ) → j ≢ i → j ≢ i + 1 → getD (putWord w i x) j 0 ≡ getD w j 0
+  put-other j d e = getD-set-other (set w i (x % 256)) (i + 1) j (x / 256) 0 e ∙ getD-set-other w i j (x % 256) 0 d
+
+  pub outside-put : Outside w (putWord w i x) i (i + 2)
+  outside-put =
+      record {
+        under = λ j h. put-other j (λ e. omega arith) (λ e. omega arith);
+        past = λ j h. put-other j (λ e. omega arith) (λ e. omega arith);
+      }
+
+  pub word-put : i + 1 < length w → wordAt (putWord w i x) i ≡ x
+  word-put h =
+      let low : getD (putWord w i x) i 0 ≡ x % 256 =
+      getD-set-other (set w i (x % 256)) (i + 1) i (x / 256) 0 (λ e. omega arith) ∙ getD-set-same w i (x % 256) 0 (omega arith) in
+      let high : getD (putWord w i x) (i + 1) 0 ≡ x / 256 =
+      getD-set-same (set w i (x % 256)) (i + 1) (x / 256) 0 (omega (arith, length-set w i (x % 256))) in
+      omega (arith, low, high)
+
+-- numbers stored from k on, and one before them
+set-sets : (l : List ℕ) (i k a : ℕ) (vs : List ℕ) → i < k → set (sets l k vs) i a ≡ sets (set l i a) k vs
+set-sets l i k a [] h = refl
+set-sets l i k a (v ∷ vs) h =
+    set-sets (set l k v) i (suc k) a vs (omega arith)
+    ∙ ap (λ (m : List ℕ). sets m (suc k) vs) (set-comm l k i v a (λ e. omega arith))
+
+pub sets-append : (l : List ℕ) (i : ℕ) (vs ws : List ℕ) → sets (sets l (i + length vs) ws) i vs ≡ sets l i (vs ++ ws)
+sets-append l i [] ws = ap (λ k. sets l k ws) (add-zero i)
+sets-append l i (v ∷ vs) ws =
+    let k : i + suc (length vs) ≡ suc i + length vs = omega arith in
+    ap (λ (m : List ℕ). sets m (suc i) vs)
+    (ap (λ n. set (sets l n ws) i v) k ∙ set-sets l i (suc i + length vs) v ws (omega arith))
+    ∙ sets-append (set l i v) (suc i) vs ws

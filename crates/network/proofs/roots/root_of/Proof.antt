@@ -1,0 +1,47 @@
+use borrow.Author.Needs.{needs}
+use mathlib.Core.Path.{sym, ap, _∙_}
+use denote.Ref.{now}
+use Rattle.network.specs.Levels.{refAt}
+use Rattle.network.proofs.RootTurns.{root-past, root-link}
+use Rattle.network.proofs.roots.root_of.Statement.{statement}
+use Rattle.network.proofs.roots.root_of.Tie as tie
+use Rattle.network.proofs.roots.root_of.Reads as reads
+use Rattle.network.proofs.roots.root_of.Lts as lts
+use Rattle.network.proofs.links.link_ref.Reads as link-ref-reads
+use Rattle.network.proofs.links.word_at.Reads as word-at-reads
+
+-- src/roots.rt:16:9
+returns : tie.Need-returns
+returns c =
+    let a = c .before .before .args in
+    (sym (root-past (now (a .work)) (a .m) (a .below) (a .j) (c .if1 .taken)), search needs)
+
+-- src/roots.rt:18:34
+mul-word-at : tie.Need-mul-word-at
+mul-word-at c = search needs
+
+-- src/roots.rt:18:27
+add-word-at : tie.Need-add-word-at
+add-word-at c = search needs
+
+-- src/roots.rt:18:9
+word-at-requires : tie.Need-word-at-requires
+word-at-requires c κs = search needs
+
+-- src/roots.rt:19:5
+link-ref-requires : tie.Need-link-ref-requires
+link-ref-requires c κs = search needs
+
+-- src/roots.rt:11:1
+returns-2 : tie.Need-returns-2
+returns-2 c =
+    let a = c .before .before .before .before .args in (
+      c .link-ref .ensures .0 ∙ ap (refAt (now (a .work)) (a .below)) (c .before .word-at .ensures .0)
+          ∙ sym (root-link (now (a .work)) (a .m) (a .below) (a .j) (c .before .before .if1 .left)),
+      c .link-ref .ensures .1,
+    )
+
+pub root-of-spec : {M : Type 1} → statement M
+root-of-spec =
+    tie.close
+    (tie.spec returns mul-word-at add-word-at word-at-requires link-ref-requires returns-2)

@@ -1,0 +1,55 @@
+// Links and references in the work buffer, as 16-bit numbers, low byte first.
+use table::bits::number_at;
+ghost use mathlib.Core.Path.{_≡_};
+ghost use Prim.Native.Nat.{_+_, _<_};
+ghost use lib.ListN.{length};
+ghost use Rattle.diagram.specs.Trace.{opposite};
+ghost use Rattle.network.specs.Levels.{wordAt, putWord, refAt};
+
+// Where the links begin in the work buffer.
+pub(crate) const LINKS_AT: usize = 8192;
+
+// The number at byte i.
+pub(crate) fn word_at(work: &[u8], i: usize) -> usize
+    requires { ⌜ i < 1000000 ⌝ }
+    ensures { λ r. ⌜ (r ≡ wordAt (now (work .entry)) i) × (r < 65536) ⌝ }
+{
+    let low = number_at(work, i);
+    let high = number_at(work, i + 1);
+    low + 256 * high
+}
+
+// Puts a number at byte i.
+pub(crate) fn put_word(work: &mut [u8], i: usize, x: usize)
+    requires { ⌜ (i + 1 < length (now work)) × (x < 65536) ⌝ }
+    ensures { λ _. ⌜ now (work .exit) ≡ putWord (now (work .entry)) i x ⌝ }
+{
+    work[i] = (x % 256) as u8;
+    work[i + 1] = (x / 256) as u8;
+}
+
+// The reference to the inverse, where odd is true.
+pub(crate) fn turned(r: usize, odd: bool) -> usize
+    requires { ⌜ r < 65536 ⌝ }
+    ensures { λ q. ⌜ (q ≡ opposite odd r) × (q < 65536) ⌝ }
+{
+    if !odd {
+        return r;
+    }
+    if r % 2 == 1 {
+        return r - 1;
+    }
+    r + 1
+}
+
+// The reference that link number k stands for, where the references of the entries below stand from byte `below` on.
+pub(crate) fn link_ref(work: &[u8], below: usize, k: usize) -> usize
+    requires { ⌜ (below < 65536) × (k < 65536) ⌝ }
+    ensures { λ r. ⌜ (r ≡ refAt (now (work .entry)) below k) × (r < 65536) ⌝ }
+{
+    if k < 2 {
+        return k;
+    }
+    let r = word_at(work, below + 4 * (k / 2 - 1));
+    turned(r, k % 2 == 1)
+}
