@@ -1,0 +1,73 @@
+-- The variable that comes next, by the nodes of ten levels and by marks: it is a variable, and where the marks are those of the
+-- variables sifted it is the one that diagram's `next` names.
+-- Assumes nothing.
+use mathlib.Core.Path.{_≡_, refl, ap, _∙_}
+use mathlib.Core.Bool.{Bool, true, false, not}
+use mathlib.Core.List.{List, [], _∷_}
+use Prim.Native.Nat.{ℕ, _≤_, _<_}
+use native.Mathlib.Omega.{arith}
+use lib.Dec.{T, eqb}
+use lib.ListN.{getD}
+use Rattle.diagram.specs.Lists.{has, index, keep, upTo}
+use Rattle.diagram.specs.Network.{counts}
+use Rattle.diagram.specs.Order.{isOrder}
+use Rattle.diagram.specs.Table.{Table, filled}
+use Rattle.diagram.specs.Sift.{nodesOf, mostOf, most}
+use Rattle.diagram.proofs.Bools.{or-r}
+use Rattle.diagram.proofs.Lists.{eqb-equality, has-here, keep-has}
+use Rattle.diagram.proofs.Numbers.{upTo-lt}
+use Rattle.diagram.proofs.Order.{index-below}
+use Rattle.diagram.proofs.Most.{most-has}
+use Rattle.table.proofs.Filled.{listed-at}
+use Rattle.fill.specs.Calls.{tenOf}
+use Rattle.sift.specs.Choice.{nodesAt, left, nextOf}
+
+-- two numberings that agree on a list have the same first with the most
+
+mostOf-cong : (f g : ℕ → ℕ) (v : ℕ) (vs : List ℕ) → f v ≡ g v → ((w : ℕ) → T (has eqb w vs) → f w ≡ g w) → mostOf f v vs ≡ mostOf g v vs
+mostOf-cong f g v [] p e = refl
+mostOf-cong f g v (x ∷ vs) p e =
+    let q : f x ≡ g x = e x (has-here eqb eqb-equality x vs) in
+    let r = mostOf-cong f g x vs q (λ w h. e w (or-r (eqb w x) (has eqb w vs) h)) in
+    let s = mostOf-cong f g v vs p (λ w h. e w (or-r (eqb w x) (has eqb w vs) h)) in
+    rw (p, q, r, s)
+
+most-cong : (f g : ℕ → ℕ) (vs : List ℕ) → ((w : ℕ) → T (has eqb w vs) → f w ≡ g w) → most f vs ≡ most g vs
+most-cong f g [] e = refl
+most-cong f g (v ∷ vs) e =
+    mostOf-cong f g v vs (e v (has-here eqb eqb-equality v vs)) (λ w h. e w (or-r (eqb w v) (has eqb w vs) h))
+
+-- two tests that agree on a list keep the same of it
+pub keep-cong : (p q : ℕ → Bool) (vs : List ℕ) → ((w : ℕ) → T (has eqb w vs) → p w ≡ q w) → keep p vs ≡ keep q vs
+keep-cong p q [] e = refl
+keep-cong p q (v ∷ vs) e =
+    let r = keep-cong p q vs (λ w h. e w (or-r (eqb w v) (has eqb w vs) h)) in
+    let d : p v ≡ q v = e v (has-here eqb eqb-equality v vs) in
+    rw (d, r)
+
+most-below : (f : ℕ → ℕ) (n : ℕ) (vs : List ℕ) → ((w : ℕ) → T (has eqb w vs) → w < n) → 0 < n → most f vs < n
+most-below f n [] b h = h
+most-below f n (v ∷ vs) b h = b (most f (v ∷ vs)) (most-has f (v ∷ vs) (omega arith))
+
+left-below : (n : ℕ) (done : List Bool) (w : ℕ) → T (has eqb w (left n done)) → w < n
+left-below n done w h = upTo-lt w n (keep-has eqb eqb-equality (λ v. not (getD done v false)) w (upTo n) h .0)
+
+pub next-below : (t : Table) (order : List ℕ) (done : List Bool) → 0 < t .n → nextOf t order done < t .n
+unfolding nextOf
+next-below t order done h = most-below (nodesOf t order) (t .n) (left (t .n) done) (left-below (t .n) done) h
+
+-- by the nodes of ten levels
+module _ (t : Table) (order : List ℕ) (done : List Bool) (o : T (isOrder (t .n) order)) (k : t .n ≤ 10) where
+  nodes-ten : (v : ℕ) → v < t .n → nodesAt (tenOf (counts true (t .n) (filled true t order))) order v ≡ nodesOf t order v
+  unfolding nodesOf
+  nodes-ten v h =
+      listed-at (λ p. getD (counts true (t .n) (filled true t order)) p 0) 10 (index eqb v order)
+      (omega (arith, index-below (t .n) order o v h))
+
+  pub next-counted : (cs : List ℕ) → cs ≡ tenOf (counts true (t .n) (filled true t order))
+      → most (nodesAt cs order) (left (t .n) done) ≡ nextOf t order done
+  unfolding nextOf
+  next-counted cs e =
+      ap (λ (l : List ℕ). most (nodesAt l order) (left (t .n) done)) e
+      ∙ most-cong (nodesAt (tenOf (counts true (t .n) (filled true t order))) order) (nodesOf t order) (left (t .n) done)
+      (λ w h. nodes-ten w (left-below (t .n) done w h))

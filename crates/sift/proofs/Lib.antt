@@ -1,0 +1,13 @@
+pub mod Places
+pub mod Entries
+pub mod Headings
+pub mod Counted
+pub mod Zeroed
+pub mod Trying
+pub mod Sifted
+pub mod Leading
+pub mod Chosen
+pub mod Turned
+pub mod Marked
+pub mod Running
+pub mod Passed

@@ -1,0 +1,33 @@
+-- The level of a variable, looked for one entry after the other.
+-- Assumes nothing.
+use mathlib.Core.Path.{_≡_}
+use mathlib.Core.List.{List}
+use Prim.Native.Nat.{ℕ, suc, _+_, _≤_, _<_}
+use native.Mathlib.Numerals.{add-one}
+use native.Mathlib.Omega.{arith}
+use borrow.Author.Tests.{eq-eqb, ne-eqb}
+use lib.Dec.{eqb}
+use lib.ListN.{length, getD, take}
+use Rattle.diagram.specs.Lists.{index}
+use Rattle.table.proofs.Orders.{rest, rest-cons, rest-none}
+
+index-now : (v : ℕ) (l : List ℕ) (n i : ℕ) → n ≤ length l → i < n → v ≡ getD l i 0 → index eqb v (rest l n i) ≡ 0
+index-now v l n i k h e = rw (rest-cons l n i k h, eq-eqb v (getD l i 0) e)
+
+index-later : (v : ℕ) (l : List ℕ) (n i : ℕ) → n ≤ length l → i < n → (v ≡ getD l i 0 → ⊥)
+    → index eqb v (rest l n i) ≡ suc (index eqb v (rest l n (i + 1)))
+index-later v l n i k h e = rw (add-one, rest-cons l n i k h, ne-eqb v (getD l i 0) e)
+
+index-none : (v : ℕ) (l : List ℕ) (n i : ℕ) → n ≤ length l → n ≤ i → index eqb v (rest l n i) ≡ 0
+index-none v l n i k h = rw (rest-none l n i k h)
+
+-- the entries before level i passed over
+module _ (v : ℕ) (l : List ℕ) (n i : ℕ) (k : n ≤ length l) (p : index eqb v (take n l) ≡ i + index eqb v (rest l n i)) where
+  pub place-here : i < n → v ≡ getD l i 0 → i ≡ index eqb v (take n l)
+  place-here h e = omega (arith, index-now v l n i k h e)
+
+  pub place-later : i < n → (v ≡ getD l i 0 → ⊥) → index eqb v (take n l) ≡ i + 1 + index eqb v (rest l n (i + 1))
+  place-later h e = omega (arith, index-later v l n i k h e)
+
+  pub place-none : n ≤ i → i ≡ index eqb v (take n l)
+  place-none h = omega (arith, index-none v l n i k h)

@@ -1,0 +1,134 @@
+-- A pass under way, turn by turn: what the code holds is the pass after as many turns, and it stops where diagram's pass does.
+-- Assumes nothing.
+use mathlib.Core.Path.{_≡_, sym, ap, ap₂, _∙_, subst}
+use mathlib.Core.Bool.{true}
+use mathlib.Core.List.{List, [], _++_}
+use Prim.Native.Nat.{ℕ, suc, _+_, _*_, _≤_, _<_}
+use native.Mathlib.Nat.{le-trans}
+use native.Mathlib.Numerals.{add-one}
+use native.Mathlib.Omega.{arith}
+use lib.Dec.{T}
+use lib.ListN.{length, set, take, drop, take-append-drop}
+use lib.Seq.{take-at, drop-at}
+use Rattle.diagram.specs.Order.{isOrder}
+use Rattle.diagram.specs.Table.{Table}
+use Rattle.diagram.specs.Sift.{sift, Pass, next, turn, allowed}
+use Rattle.diagram.proofs.Order.{order-length}
+use Rattle.diagram.proofs.Pass.{afterTurns, after-suc, after-done, after-tried, after-going, Going, next-below, turns, allowed-only}
+use Rattle.table.specs.declared.State.{State}
+use Rattle.table.specs.State.{goodHeading, orderOf}
+use Rattle.fill.specs.Calls.{heldTable}
+use Rattle.sift.specs.declared.passes.Progress.{Progress}
+use Rattle.sift.specs.Calls.{passOf}
+use Rattle.sift.specs.Choice.{nextOf}
+use Rattle.sift.specs.Turns.{marks, progressOf, nextIn, turnOf}
+use Rattle.sift.proofs.Headings.{heading-inputs, heading-order, heading-with, take-order}
+use Rattle.sift.proofs.Marked.{mark-more, next-marked}
+
+-- a turn of a pass that is held is the held turn of the pass
+
+module _ (s : State) (values care : List ℕ) (k : s .n ≤ 10) (q : Pass) (going : Going (heldTable s values care) q)
+    (h : length (q .done) < s .n) where
+  order-held : take (s .n) (progressOf s q .order) ≡ q .order
+  unfolding progressOf
+  order-held = take-at (q .order) (drop (s .n) (s .order)) (s .n) (order-length (s .n) (q .order) (going .valid))
+
+  past-held : drop (s .n) (progressOf s q .order) ≡ drop (s .n) (s .order)
+  unfolding progressOf
+  past-held = drop-at (q .order) (drop (s .n) (s .order)) (s .n) (order-length (s .n) (q .order) (going .valid))
+
+  next-held : nextIn (heldTable s values care) (progressOf s q) ≡ next (heldTable s values care) q
+  unfolding progressOf
+  next-held =
+      ap (λ (order : List ℕ). nextOf (heldTable s values care) order (marks (q .done))) order-held
+      ∙ next-marked (heldTable s values care) q k
+
+  pub turn-held : turnOf (heldTable s values care) (progressOf s q) ≡ progressOf s (turn (heldTable s values care) q)
+  unfolding progressOf turnOf turn
+  turn-held =
+      let t : Table = heldTable s values care in
+      let o = ap₂ (λ (v : ℕ) (order : List ℕ). sift t v order) next-held order-held in
+      λ i. record {
+        order = o i ++ past-held i;
+        done = (ap (λ (v : ℕ). set (marks (q .done)) v true) next-held ∙ mark-more (q .done) (next t q) (le-trans (next-below t q h) k)) i;
+        sifted = add-one (length (q .done)) i;
+        tried = q .tried + s .n;
+      }
+
+-- after as many turns as variables are marked, and within the limit
+pub record Running (s : State) (limit : ℕ) (values care : List ℕ) (p : Progress) : Type 0 where
+  pub held : p ≡ progressOf s (afterTurns (heldTable s values care) (p .sifted) (orderOf s))
+  pub within : p .sifted ≤ s .n
+  pub limited : p .tried ≤ limit
+
+module _ (s : State) (limit : ℕ) (values care : List ℕ) (g : T (goodHeading (s .n) (s .m) (orderOf s))) where
+  abbrev after : ℕ → Pass
+  after k = afterTurns (heldTable s values care) k (orderOf s)
+
+  going : (k : ℕ) → k ≤ s .n → Going (heldTable s values care) (after k)
+  going k h = after-going (heldTable s values care) (orderOf s) (heading-order (s .n) (s .m) (orderOf s) g) k h
+
+  pub running-start : (p : Progress) → p ≡ record { order = s .order; done = marks []; sifted = 0; tried = 0 } → Running s limit values care p
+  unfolding progressOf afterTurns
+  running-start p e =
+      let none : p .sifted ≡ 0 = ap (λ (x : Progress). x .sifted) e in
+      record {
+        held =
+            e ∙ (λ i. record { order = sym (take-append-drop (s .n) (s .order)) i; done = marks []; sifted = 0; tried = 0 })
+            ∙ ap (λ (k : ℕ). progressOf s (after k)) (sym none);
+        within = omega arith;
+        limited = omega (arith, ap (λ (x : Progress). x .tried) e);
+      }
+
+  module _ (p : Progress) (r : Running s limit values care p) where
+    order-now : p .order ≡ after (p .sifted) .order ++ drop (s .n) (s .order)
+    unfolding progressOf
+    order-now = ap (λ (x : Progress). x .order) (r .held)
+
+    tried-now : p .tried ≡ p .sifted * s .n
+    unfolding progressOf
+    tried-now = ap (λ (x : Progress). x .tried) (r .held) ∙ after-tried (heldTable s values care) (p .sifted) (orderOf s)
+
+    pub running-heading : T (goodHeading (s .n) (s .m) (take (s .n) (p .order)))
+    running-heading =
+        let o : T (isOrder (s .n) (after (p .sifted) .order)) = going (p .sifted) (r .within) .valid in
+        subst (λ (xs : List ℕ). T (goodHeading (s .n) (s .m) xs))
+        (sym (take-order (s .n) (after (p .sifted) .order) (s .order) (p .order) o order-now))
+        (heading-with (s .n) (s .m) (orderOf s) g (after (p .sifted) .order) o)
+
+    -- one turn more
+    module _ (h : p .sifted < s .n) (l : p .tried + s .n ≤ limit) (q : Progress) (e : q ≡ turnOf (heldTable s values care) p) where
+      turned-now : q ≡ progressOf s (after (suc (p .sifted)))
+      turned-now =
+          e ∙ ap (turnOf (heldTable s values care)) (r .held)
+          ∙ turn-held s values care (heading-inputs (s .n) (s .m) (orderOf s) g) (after (p .sifted)) (going (p .sifted) (r .within))
+          (omega (arith, after-done (heldTable s values care) (p .sifted) (orderOf s)))
+          ∙ ap (progressOf s) (sym (after-suc (heldTable s values care) (p .sifted) (orderOf s)))
+
+      one-more : q .sifted ≡ suc (p .sifted)
+      unfolding progressOf
+      one-more = ap (λ (x : Progress). x .sifted) turned-now ∙ after-done (heldTable s values care) (suc (p .sifted)) (orderOf s)
+
+      more-tried : q .tried ≡ p .tried + s .n
+      unfolding turnOf
+      more-tried = ap (λ (x : Progress). x .tried) e
+
+      pub running-next : Running s limit values care q
+      running-next =
+          record {
+            held = turned-now ∙ ap (λ (k : ℕ). progressOf s (after k)) (sym one-more);
+            within = omega (arith, one-more);
+            limited = omega (arith, more-tried);
+          }
+
+      pub running-less : q .sifted ≡ p .sifted + 1
+      running-less = omega (arith, one-more)
+
+    -- it stops where all are sifted, or where the limit has no room
+    pub running-stop : (p .sifted < s .n → limit < p .tried + s .n) → p ≡ progressOf s (passOf s limit values care)
+    running-stop m =
+        let a : allowed (s .n) limit ≡ p .sifted =
+        allowed-only (s .n) limit (p .sifted) (r .within) (omega (arith, tried-now, r .limited)) (λ h. omega (arith, tried-now, m h)) in
+        r .held
+        ∙ ap (λ (k : ℕ). progressOf s (after k)) (sym a)
+        ∙ ap (progressOf s) (sym (turns (heldTable s values care) limit (orderOf s)))

@@ -1,0 +1,84 @@
+-- A work buffer that is zero stays so however often it is zeroed, and it is as long as a call asks.
+-- Assumes nothing.
+use mathlib.Core.Path.{_≡_, sym, ap, _∙_, subst}
+use mathlib.Core.Bool.{true, _&&_}
+use mathlib.Core.List.{List, _++_}
+use Prim.Native.Nat.{ℕ, _≤_}
+use native.Mathlib.Omega.{arith}
+use lib.Dec.{T, leb, leb→le, le→leb}
+use lib.ListN.{length, drop, replicate, length-append, length-drop, length-replicate}
+use lib.Seq.{drop-at}
+use Rattle.diagram.proofs.Bools.{of-T, and-T, and-l, and-r}
+use Rattle.table.specs.Calls.{planeSize}
+use Rattle.fill.specs.Work.{workSize, zeroWork, clearedWork}
+use Rattle.fill.specs.Calls.{enough}
+
+zero-zero : (work : List ℕ) → zeroWork (zeroWork work) ≡ zeroWork work
+unfolding zeroWork
+zero-zero work =
+    ap (λ (l : List ℕ). replicate workSize 0 ++ l) (drop-at (replicate workSize 0) (drop workSize work) workSize (length-replicate workSize 0))
+
+zero-long : (work : List ℕ) → workSize ≤ length (zeroWork work)
+unfolding zeroWork
+zero-long work = omega (arith, length-append (replicate workSize 0) (drop workSize work), length-replicate {A = ℕ} workSize 0)
+
+enough-zero : (values care work : List ℕ) → T (enough values care work) → T (enough values care (zeroWork work))
+enough-zero values care work e =
+    let rest = and-r (leb planeSize (length values)) (leb planeSize (length care) && leb workSize (length work)) e in
+    and-T (leb planeSize (length values)) (leb planeSize (length care) && leb workSize (length (zeroWork work)))
+    (and-l (leb planeSize (length values)) (leb planeSize (length care) && leb workSize (length work)) e)
+    (and-T (leb planeSize (length care)) (leb workSize (length (zeroWork work)))
+    (and-l (leb planeSize (length care)) (leb workSize (length work)) rest) (le→leb workSize (length (zeroWork work)) (zero-long work)))
+
+long-enough : (values care work : List ℕ) → T (enough values care work) → workSize ≤ length work
+long-enough values care work e =
+    leb→le workSize (length work)
+    (and-r (leb planeSize (length care)) (leb workSize (length work))
+    (and-r (leb planeSize (length values)) (leb planeSize (length care) && leb workSize (length work)) e))
+
+pub zero-length : (values care work : List ℕ) → T (enough values care work) → length (zeroWork work) ≡ length work
+unfolding zeroWork
+zero-length values care work e =
+    omega (
+      arith,
+      length-append (replicate workSize 0) (drop workSize work),
+      length-replicate {A = ℕ} workSize 0,
+      length-drop workSize work,
+      long-enough values care work e,
+    )
+
+-- one call after another
+
+pub enough-again : (values care work after : List ℕ) → T (enough values care work) → after ≡ zeroWork work → T (enough values care after)
+enough-again values care work after e d = subst (λ (w : List ℕ). T (enough values care w)) (sym d) (enough-zero values care work e)
+
+pub zero-again : (work after last : List ℕ) → after ≡ zeroWork work → last ≡ zeroWork after → last ≡ zeroWork work
+zero-again work after last d e = e ∙ ap zeroWork d ∙ zero-zero work
+
+-- a work buffer in the middle of a call: what zeroing one that was zero leaves
+pub record Zeroed (values care found work : List ℕ) : Type 0 where
+  pub zero : work ≡ zeroWork found
+  pub room : T (enough values care work)
+
+module _ (values care found : List ℕ) where
+  pub zeroed-first : (entry : List ℕ) → T (enough values care entry) → found ≡ zeroWork entry → Zeroed values care found found
+  zeroed-first entry e d =
+      record {
+        zero = d ∙ sym (ap zeroWork d ∙ zero-zero entry);
+        room = enough-again values care entry found e d;
+      }
+
+  pub zeroed-again : (work after : List ℕ) → Zeroed values care found work → after ≡ zeroWork work → Zeroed values care found after
+  zeroed-again work after z d =
+      let e : after ≡ zeroWork found = zero-again found work after (z .zero) d in
+      record { zero = e; room = subst (λ (w : List ℕ). T (enough values care w)) (z .zero ∙ sym e) (z .room) }
+
+  pub zeroed-last : (entry work : List ℕ) → found ≡ zeroWork entry → Zeroed values care found work → work ≡ zeroWork entry
+  zeroed-last entry work d z = zero-again entry found work d (z .zero)
+
+-- a cleared work buffer that is as long as a call asks
+pub cleared-zero : (values care work : List ℕ) → T (enough values care work) → clearedWork work ≡ zeroWork work
+unfolding clearedWork
+cleared-zero values care work e =
+    let k : leb workSize (length work) ≡ true = of-T (le→leb workSize (length work) (long-enough values care work e)) in
+    rw k

@@ -1,0 +1,26 @@
+-- The variable that comes next in a pass, where marks say which are sifted (law next-marked: it is diagram's `next`).
+-- Assumes nothing.
+use mathlib.Core.Bool.{Bool, false, not, cond}
+use mathlib.Core.List.{List}
+use Prim.Native.Nat.{ℕ}
+use lib.Dec.{eqb, ltb}
+use lib.ListN.{getD}
+use Rattle.diagram.specs.Lists.{index, keep, upTo}
+use Rattle.diagram.specs.Table.{Table}
+use Rattle.diagram.specs.Sift.{nodesOf, most}
+use Rattle.sift.specs.declared.choice.Lead.{Lead}
+
+-- who leads after the variable v, with so many nodes
+unfoldable pub overtaken : Lead → ℕ → ℕ → Bool → Lead
+overtaken l v nodes sifted = cond sifted l (cond (ltb nodes (l .nodes)) l (record { variable = v; nodes = nodes }))
+
+-- a variable's nodes, by the nodes of each level
+abbrev pub nodesAt : List ℕ → List ℕ → ℕ → ℕ
+nodesAt counts order v = getD counts (index eqb v order) 0
+
+-- the variables below n that are not marked, lowest first
+abbrev pub left : ℕ → List Bool → List ℕ
+left n done = keep (λ v. not (getD done v false)) (upTo n)
+
+unfoldable pub nextOf : Table → List ℕ → List Bool → ℕ
+nextOf t order done = most (nodesOf t order) (left (t .n) done)

@@ -1,0 +1,5 @@
+pub mod Calls
+pub mod Entries
+pub mod Tried
+pub mod Choice
+pub mod Turns

@@ -1,0 +1,36 @@
+-- A pass under way as the code holds it: the order with what lies past n, a mark for each of ten variables, their number, the orders tried.
+-- Assumes nothing.
+use mathlib.Core.Bool.{Bool, true}
+use mathlib.Core.List.{List, _++_, map}
+use Prim.Native.Nat.{ℕ, _+_}
+use lib.Dec.{eqb}
+use lib.ListN.{length, set, take, drop}
+use Rattle.diagram.specs.Lists.{has, upTo}
+use Rattle.diagram.specs.Table.{Table}
+use Rattle.diagram.specs.Sift.{sift, Pass}
+use Rattle.table.specs.declared.State.{State}
+use Rattle.sift.specs.declared.passes.Progress.{Progress}
+use Rattle.sift.specs.Choice.{nextOf}
+
+-- the marks of the variables sifted
+abbrev pub marks : List ℕ → List Bool
+marks done = map (λ v. has eqb v done) (upTo 10)
+
+-- how a pass of the state's table is held
+unfoldable pub progressOf : State → Pass → Progress
+progressOf s q =
+    record { order = q .order ++ drop (s .n) (s .order); done = marks (q .done); sifted = length (q .done); tried = q .tried }
+
+-- the variable that comes next
+abbrev pub nextIn : Table → Progress → ℕ
+nextIn t p = nextOf t (take (t .n) (p .order)) (p .done)
+
+-- after one turn (law turn-held: of a pass that is so held, what diagram's `turn` leaves)
+unfoldable pub turnOf : Table → Progress → Progress
+turnOf t p =
+    record {
+      order = sift t (nextIn t p) (take (t .n) (p .order)) ++ drop (t .n) (p .order);
+      done = set (p .done) (nextIn t p) true;
+      sifted = p .sifted + 1;
+      tried = p .tried + t .n;
+    }

@@ -1,0 +1,75 @@
+// The variable that a pass sifts next: the unsifted one with the most nodes, the lowest on ties (document 01, section 5).
+use crate::order::place_of;
+use crate::trials::reorder;
+use table::State;
+ghost use mathlib.Core.Path.{_≡_};
+ghost use Prim.Native.Nat.{_≤_};
+ghost use lib.Dec.{T};
+ghost use lib.ListN.{take};
+ghost use Rattle.diagram.specs.Order.{isOrder};
+ghost use Rattle.diagram.specs.Sift.{most};
+ghost use Rattle.table.specs.State.{goodHeading};
+ghost use Rattle.fill.specs.Work.{zeroWork};
+ghost use Rattle.fill.specs.Calls.{heldTable, enough};
+ghost use Rattle.sift.specs.Choice.{overtaken, nodesAt, left, nextOf};
+
+// A variable, and its nodes.
+pub(crate) struct Lead {
+    pub variable: usize,
+    pub nodes: usize,
+}
+
+// A variable takes the lead where it is not sifted and has as many nodes or more.
+fn overtake(lead: Lead, v: usize, nodes: usize, sifted: bool) -> Lead
+    ensures { λ r. ⌜ r ≡ overtaken lead v nodes sifted ⌝ }
+{
+    if sifted {
+        return lead;
+    }
+    if nodes < lead.nodes {
+        return lead;
+    }
+    Lead { variable: v, nodes }
+}
+
+// The unsifted variable with the most nodes, by the nodes of each level. It goes from the highest number down, so that on ties
+// the lowest is left.
+fn fullest(counts: [usize; 10], order: [usize; 10], done: [bool; 10], n: usize) -> usize
+    requires { ⌜ n ≤ 10 ⌝ }
+    requires { ⌜ T (isOrder n (take n order)) ⌝ }
+    ensures { λ r. ⌜ r ≡ most (nodesAt counts (take n order)) (left n done) ⌝ }
+{
+    let mut lead = Lead {
+        variable: 0,
+        nodes: 0,
+    };
+    let mut v = n;
+    while 0 < v {
+        v -= 1;
+        let place = place_of(order, n, v);
+        let nodes = counts[place];
+        let sifted = done[v];
+        lead = overtake(lead, v, nodes, sifted);
+    }
+    lead.variable
+}
+
+// The variable that comes next under an order.
+pub(crate) fn next_variable(
+    state: State,
+    order: [usize; 10],
+    done: [bool; 10],
+    values: &[u8],
+    care: &[u8],
+    work: &mut [u8],
+) -> usize
+    requires { ⌜ T (enough (now values) (now care) (now work)) ⌝ }
+    requires { ⌜ T (goodHeading (state .n) (state .m) (take (state .n) order)) ⌝ }
+    ensures variable { λ r. ⌜ r ≡ nextOf (heldTable state (now (values .entry)) (now (care .entry))) (take (state .n) order) done ⌝ }
+    ensures work { λ _. ⌜ now (work .exit) ≡ zeroWork (now (work .entry)) ⌝ }
+{
+    let current = reorder(state, order);
+    let levels = fill::counts(current, values, care, work);
+    let counts = levels.counts;
+    fullest(counts, order, done, state.n)
+}

@@ -1,0 +1,66 @@
+// Where a variable stands in an order, and the order with it moved to another level (document 01, section 5).
+ghost use mathlib.Core.Path.{_≡_};
+ghost use mathlib.Core.List.{_++_};
+ghost use Prim.Native.Nat.{_≤_, _<_};
+ghost use lib.Dec.{T, eqb};
+ghost use lib.ListN.{take, drop};
+ghost use Rattle.diagram.specs.Lists.{index};
+ghost use Rattle.diagram.specs.Order.{isOrder, moved};
+ghost use Rattle.sift.specs.Entries.{otherEntry, movedEntry};
+
+// The level of v among the first n, or n where it has none.
+pub(crate) fn place_of(order: [usize; 10], n: usize, v: usize) -> usize
+    requires { ⌜ n ≤ 10 ⌝ }
+    ensures { λ r. ⌜ r ≡ index eqb v (take n order) ⌝ }
+{
+    let mut i: usize = 0;
+    while i < n {
+        if v == order[i] {
+            return i;
+        }
+        i += 1;
+    }
+    i
+}
+
+// The j-th of the others, where one stands at level q.
+fn other(order: [usize; 10], q: usize, j: usize) -> usize
+    requires { ⌜ j < 9 ⌝ }
+    ensures { λ r. ⌜ r ≡ otherEntry order q j ⌝ }
+{
+    if j < q {
+        return order[j];
+    }
+    order[j + 1]
+}
+
+// What stands at level i once v has moved from level q to level p.
+fn moved_entry(order: [usize; 10], v: usize, q: usize, p: usize, i: usize) -> usize
+    requires { ⌜ (p < 10) × (i < 10) ⌝ }
+    ensures { λ r. ⌜ r ≡ movedEntry order v q p i ⌝ }
+{
+    if i < p {
+        return other(order, q, i);
+    }
+    if i == p {
+        return v;
+    }
+    other(order, q, i - 1)
+}
+
+// The order with v at level p, the others in sequence; entries past n are kept.
+pub(crate) fn moved_to(order: [usize; 10], n: usize, v: usize, p: usize) -> [usize; 10]
+    requires { ⌜ n ≤ 10 ⌝ }
+    requires { ⌜ T (isOrder n (take n order)) ⌝ }
+    requires { ⌜ (v < n) × (p < n) ⌝ }
+    ensures { λ r. ⌜ r ≡ moved v p (take n order) ++ drop n order ⌝ }
+{
+    let q = place_of(order, n, v);
+    let mut after = order;
+    let mut i: usize = 0;
+    while i < n {
+        after[i] = moved_entry(order, v, q, p, i);
+        i += 1;
+    }
+    after
+}

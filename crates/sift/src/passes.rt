@@ -1,0 +1,103 @@
+// A pass: each variable sifted once, under a limit of orders tried (document 01, section 5).
+use crate::choice::next_variable;
+use crate::order::moved_to;
+use crate::room::has_room;
+use crate::trials::best_place;
+use crate::trials::reorder;
+use table::Answer;
+use table::Outcome;
+use table::State;
+use table::valid::holds_table;
+ghost use mathlib.Core.Path.{_≡_};
+ghost use Prim.Native.Nat.{_<_, _^_};
+ghost use lib.Dec.{T};
+ghost use lib.ListN.{take};
+ghost use Rattle.table.specs.State.{goodHeading, orderOf};
+ghost use Rattle.fill.specs.Work.{zeroWork};
+ghost use Rattle.fill.specs.Calls.{heldTable, enough};
+ghost use Rattle.sift.specs.Calls.{passOf, passOutcome, passWork, PassDemand};
+ghost use Rattle.sift.specs.Turns.{progressOf, turnOf};
+
+// A pass under way: the order, a mark for each variable sifted, how many they are, and the orders tried.
+pub(crate) struct Progress {
+    pub order: [usize; 10],
+    pub done: [bool; 10],
+    pub sifted: usize,
+    pub tried: usize,
+}
+
+// Sifts the variable that comes next.
+fn turn(state: State, progress: Progress, values: &[u8], care: &[u8], work: &mut [u8]) -> Progress
+    requires { ⌜ T (enough (now values) (now care) (now work)) ⌝ }
+    requires { ⌜ T (goodHeading (state .n) (state .m) (take (state .n) (progress .order))) ⌝ }
+    requires { ⌜ (progress .sifted < state .n) × (progress .tried < 2 ^ 32) ⌝ }
+    ensures progress { λ r. ⌜ r ≡ turnOf (heldTable state (now (values .entry)) (now (care .entry))) progress ⌝ }
+    ensures work { λ _. ⌜ now (work .exit) ≡ zeroWork (now (work .entry)) ⌝ }
+{
+    let order = progress.order;
+    let mut done = progress.done;
+    let v = next_variable(state, order, done, values, care, work);
+    let current = reorder(state, order);
+    let best = best_place(current, v, values, care, work);
+    let after = moved_to(order, state.n, v, best.place);
+    done[v] = true;
+    Progress {
+        order: after,
+        done,
+        sifted: progress.sifted + 1,
+        tried: progress.tried + best.tried,
+    }
+}
+
+// The turns that the limit allows: none is begun whose n trials would pass it.
+fn run(state: State, limit: usize, values: &[u8], care: &[u8], work: &mut [u8]) -> Progress
+    requires { ⌜ T (enough (now values) (now care) (now work)) ⌝ }
+    requires { ⌜ T (goodHeading (state .n) (state .m) (orderOf state)) ⌝ }
+    requires { ⌜ limit < 2 ^ 32 ⌝ }
+    ensures progress { λ r. ⌜ r ≡ progressOf state (passOf state limit (now (values .entry)) (now (care .entry))) ⌝ }
+    ensures work { λ _. ⌜ now (work .exit) ≡ zeroWork (now (work .entry)) ⌝ }
+{
+    fill::clear(work);
+    let n = state.n;
+    let order = state.order;
+    let mut progress = Progress {
+        order,
+        done: [false; 10],
+        sifted: 0,
+        tried: 0,
+    };
+    while progress.sifted < n {
+        if limit < progress.tried + n {
+            return progress;
+        }
+        progress = turn(state, progress, values, care, work);
+    }
+    progress
+}
+
+// Sifts each variable once, as far as the limit of orders allows; answers the orders tried. Refuses with 10, then 21.
+pub fn pass(state: State, limit: u32, values: &[u8], care: &[u8], work: &mut [u8]) -> Outcome
+    ensures outcome { λ r. ⌜ r ≡ passOutcome state limit (now (values .entry)) (now (care .entry)) (now (work .entry)) ⌝ }
+    ensures work { λ _. ⌜ now (work .exit) ≡ passWork state limit (now (values .entry)) (now (care .entry)) (now (work .entry)) ⌝ }
+    ensures demand { λ _. ⌜ PassDemand state limit (now (values .entry)) (now (care .entry)) ⌝ }
+{
+    if !has_room(values.len(), care.len(), work.len()) {
+        return Outcome {
+            answer: Answer::ShortBuffer,
+            state,
+        };
+    }
+    if !holds_table(state) {
+        return Outcome {
+            answer: Answer::NoTable,
+            state,
+        };
+    }
+    let progress = run(state, limit as usize, values, care, work);
+    let order = progress.order;
+    let left = reorder(state, order);
+    Outcome {
+        answer: Answer::Done(progress.tried),
+        state: left,
+    }
+}
