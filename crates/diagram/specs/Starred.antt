@@ -39,17 +39,17 @@ pub data Claim : Type 0 where
   -- whether a board of this size is enough
   fits : Table → List ℕ → ℕ → Bool → Claim
 
-abbrev equal : {A : Type 0} → (A → A → Bool) → List A → List A → Bool
+abbrev pub equal : {A : Type 0} → (A → A → Bool) → List A → List A → Bool
 equal eq [] [] = true
 equal eq [] (y ∷ ys) = false
 equal eq (x ∷ xs) [] = false
 equal eq (x ∷ xs) (y ∷ ys) = eq x y && equal eq xs ys
 
-abbrev sameNode : Node → Node → Bool
+abbrev pub sameNode : Node → Node → Bool
 sameNode c e = eqb (c .level) (e .level) && (eqb (c .low) (e .low) && eqb (c .high) (e .high))
 
 -- the filled table, each output listed from row 0
-abbrev filledRows : Table → List ℕ → List (List Bool)
+abbrev pub filledRows : Table → List ℕ → List (List Bool)
 filledRows t order = map (λ j. map (filledBit true t order j) (upTo (2 ^ t .n))) (upTo (t .m))
 
 unfoldable pub holds : Claim → Bool

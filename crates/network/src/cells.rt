@@ -9,7 +9,7 @@ ghost use Rattle.network.specs.Lent.{lentNode, lentDiagram};
 ghost use Rattle.network.specs.Cells.{lentCells};
 
 // Number i, or 0 past the end.
-pub(crate) fn number_at(numbers: &[u16], i: usize) -> usize
+pub fn number_at(numbers: &[u16], i: usize) -> usize
     ensures { λ r. ⌜ (r ≡ getD (now (numbers .entry)) i 0) × (r < 65536) ⌝ }
 {
     if i < numbers.len() {

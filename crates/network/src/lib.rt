@@ -1,6 +1,6 @@
 // Building a network in lent cells, and evaluating lent cells (document 01, section 4).
 pub mod build;
-mod cells;
+pub mod cells;
 pub mod evaluate;
 mod follow;
 mod levels;

@@ -4,12 +4,16 @@ use mathlib.Core.Bool.{Bool, true, false, cond, _&&_}
 use mathlib.Core.List.{List}
 use Prim.Native.Nat.{ℕ, suc}
 use lib.Dec.{leb}
-use lib.ListN.{getD, set, take}
+use lib.ListN.{getD, set, take, replicate}
 use Rattle.diagram.specs.Bound.{mostVariables, mostOutputs}
 use Rattle.diagram.specs.Order.{isOrder}
 use Rattle.table.specs.declared.State.{State}
 use Rattle.table.specs.declared.Stage.{Stage}
 use Rattle.table.specs.declared.Stage.the-variants.{Nothing, Table as AtTable, Network}
+
+-- before any load
+abbrev pub unloadedState : State
+unloadedState = record { n = 0; m = 0; order = replicate 10 0; count = 0; stage = Nothing }
 
 -- the heading's rules: n at most 10, m from 1 to 16, the order each input once
 unfoldable pub goodHeading : ℕ → ℕ → List ℕ → Bool

@@ -18,6 +18,7 @@ ghost use mathlib.Core.Path.{_≡_};
 ghost use Prim.Native.Nat.{ℕ, _+_, _*_, _/_, _≤_, _<_};
 ghost use lib.ListN.{length};
 ghost use Rattle.table.specs.Answer.{done};
+ghost use Rattle.table.specs.State.{unloadedState};
 ghost use Rattle.table.specs.File.{firstBit, blockAnswer, blocksAnswer, streamsAnswer, streamBlocks, fileAnswer, streamByte};
 ghost use Rattle.table.specs.Calls.{planeSize, over, loadOutcome, loadValues, loadCare};
 
@@ -153,6 +154,19 @@ fn write_plane(file: &[u8], first: usize, blocks: usize, plane: &mut [u8])
     while i < 2048 {
         plane[i] = stream_byte(file, first, blocks, i);
         i += 1;
+    }
+}
+
+// The state before any load.
+pub fn unloaded() -> State
+    ensures { λ r. ⌜ r ≡ unloadedState ⌝ }
+{
+    State {
+        n: 0,
+        m: 0,
+        order: [0; 10],
+        count: 0,
+        stage: Stage::Nothing,
     }
 }
 

@@ -1,0 +1,181 @@
+// The calls, one a word, on the table at the desk.
+use crate::command::Command;
+use crate::show;
+use fill::count;
+use network::build::build;
+use network::evaluate::evaluate;
+use sift::passes::pass;
+use sift::single::sift;
+use table::Outcome;
+use table::State;
+use table::swap::swap;
+use text::word::Number;
+use text::word::number_in;
+
+// The most cells, and the largest number of a word.
+const CELLS: usize = 2159;
+
+const LARGEST: u32 = 4294967295;
+
+// What is at the desk: the state, the board for the builds that follow, the word that waits for its number, and whether a word was wrong.
+pub(crate) struct Desk {
+    pub state: State,
+    pub board: usize,
+    pub waiting: Command,
+    pub ended: bool,
+}
+
+// The desk as it is after a load.
+pub(crate) fn opened(state: State) -> Desk {
+    Desk {
+        state,
+        board: CELLS,
+        waiting: Command::None,
+        ended: false,
+    }
+}
+
+// The desk with a state, and no word that waits.
+fn with_state(desk: Desk, state: State) -> Desk {
+    Desk {
+        state,
+        board: desk.board,
+        waiting: Command::None,
+        ended: false,
+    }
+}
+
+// The desk where a word waits for its number.
+fn waits(desk: Desk, waiting: Command) -> Desk {
+    let state = desk.state;
+    Desk {
+        state,
+        board: desk.board,
+        waiting,
+        ended: false,
+    }
+}
+
+// Word k is wrong, which ends the command.
+fn bad(desk: Desk, k: usize) -> Desk {
+    show::number(b"bad word", k);
+    let state = desk.state;
+    Desk {
+        state,
+        board: desk.board,
+        waiting: Command::None,
+        ended: true,
+    }
+}
+
+// Prints what a call answers, and goes on with its state.
+fn said(desk: Desk, word: &[u8], outcome: Outcome) -> Desk {
+    let answer = outcome.answer;
+    show::answer(word, answer);
+    let state = outcome.state;
+    with_state(desk, state)
+}
+
+// Prints what evaluating a row answers.
+fn evaluated(desk: Desk, row: usize, roots: &[u16], cells: &[u16]) -> Desk {
+    let state = desk.state;
+    show::answer(b"eval", evaluate(state, row, roots, cells));
+    with_state(desk, state)
+}
+
+// Sets the board for the builds that follow.
+fn with_board(desk: Desk, board: usize) -> Desk {
+    let state = desk.state;
+    Desk {
+        state,
+        board,
+        waiting: Command::None,
+        ended: false,
+    }
+}
+
+// The largest number that a word takes.
+fn largest(command: Command) -> u32 {
+    match command {
+        Command::Board => CELLS as u32,
+        _ => LARGEST,
+    }
+}
+
+// Builds on the board's part of the cells.
+fn built(
+    desk: Desk,
+    values: &[u8],
+    care: &[u8],
+    work: &mut [u8],
+    roots: &mut [u16],
+    cells: &mut [u16],
+) -> Desk {
+    let state = desk.state;
+    let end = if desk.board < CELLS {
+        3 * desk.board
+    } else {
+        3 * CELLS
+    };
+    if end <= cells.len() {
+        return said(
+            desk,
+            b"build",
+            build(state, values, care, work, roots, &mut cells[..end]),
+        );
+    }
+    desk
+}
+
+// A word that may be one without a number.
+pub(crate) fn first(
+    desk: Desk,
+    k: usize,
+    command: Command,
+    values: &[u8],
+    care: &[u8],
+    work: &mut [u8],
+    roots: &mut [u16],
+    cells: &mut [u16],
+) -> Desk {
+    let state = desk.state;
+    match command {
+        Command::Unknown => return bad(desk, k),
+        Command::None => {}
+        Command::Count => show::answer(b"count", count(state, values, care, work)),
+        Command::Build => return built(desk, values, care, work, roots, cells),
+        Command::Order => show::order(state),
+        Command::State => show::stage(state),
+        Command::Cells => show::cells(state, roots, cells),
+        Command::Rows => show::rows(state, roots, cells),
+        Command::Cared => show::cared(state, care),
+        _ => return waits(desk, command),
+    }
+    desk
+}
+
+// The number that a word waits for, and then its call.
+pub(crate) fn second(
+    desk: Desk,
+    k: usize,
+    command: Command,
+    word: &[u8],
+    values: &[u8],
+    care: &[u8],
+    work: &mut [u8],
+    roots: &[u16],
+    cells: &[u16],
+) -> Desk {
+    let Number::Is(x) = number_in(word, largest(command)) else {
+        return bad(desk, k);
+    };
+    let state = desk.state;
+    let number = x as usize;
+    match command {
+        Command::Swap => said(desk, b"swap", swap(state, number)),
+        Command::Sift => said(desk, b"sift", sift(state, number, values, care, work)),
+        Command::Pass => said(desk, b"pass", pass(state, x, values, care, work)),
+        Command::Eval => evaluated(desk, number, roots, cells),
+        _ => with_board(desk, number),
+    }
+}

@@ -1,0 +1,96 @@
+// A command over every call: `desk WORD.. < TABLE`. It loads the table on standard input, then does what the words say, in turn.
+mod calls;
+mod command;
+mod show;
+
+use calls::Desk;
+use command::Command;
+use libc::STDIN_FILENO;
+use show::answer;
+use show::number;
+use table::Answer;
+use table::load::unloaded;
+use text::input::load_input;
+
+// The longest word that is read whole.
+const WORD: usize = 4096;
+
+// Takes word k: the number that the word before it waits for, or the next word of the command.
+fn take(
+    desk: Desk,
+    k: usize,
+    values: &[u8],
+    care: &[u8],
+    work: &mut [u8],
+    roots: &mut [u16],
+    cells: &mut [u16],
+) -> Desk {
+    let mut space = [0u8; WORD];
+    let length = os::arg(k, &mut space);
+    let word: &[u8] = &space[..length];
+    let waiting = desk.waiting;
+    match waiting {
+        Command::None => calls::first(desk, k, command::of(word), values, care, work, roots, cells),
+        _ => calls::second(desk, k, waiting, word, values, care, work, roots, cells),
+    }
+}
+
+// Takes the words in turn, up to one that is wrong.
+fn run(
+    desk: Desk,
+    values: &[u8],
+    care: &[u8],
+    work: &mut [u8],
+    roots: &mut [u16],
+    cells: &mut [u16],
+) {
+    let count = os::arg_count();
+    let mut desk = desk;
+    let mut k: usize = 1;
+    while k < count {
+        if desk.ended {
+            return;
+        }
+        desk = take(desk, k, values, care, work, roots, cells);
+        k += 1;
+    }
+    finish(desk, count);
+}
+
+// A number that is missing stands behind the last word.
+fn finish(desk: Desk, count: usize) {
+    if desk.ended {
+        return;
+    }
+    let waiting = desk.waiting;
+    match waiting {
+        Command::None => {}
+        _ => number(b"bad word", count),
+    }
+}
+
+fn main() {
+    // One byte more than the longest input, to see that there is more.
+    let mut file = [0u8; 65537];
+    let mut values = [0u8; 2048];
+    let mut care = [0u8; 2048];
+    let mut work = [0u8; 32768];
+    let mut roots = [0u16; 16];
+    let mut cells = [0u16; 6477];
+    let length = io::read_full(STDIN_FILENO, &mut file);
+    let outcome = load_input(unloaded(), &file[..length], &mut values, &mut care);
+    let loaded = outcome.answer;
+    answer(b"load", loaded);
+    let state = outcome.state;
+    match loaded {
+        Answer::Done(_) => run(
+            calls::opened(state),
+            &values,
+            &care,
+            &mut work,
+            &mut roots,
+            &mut cells,
+        ),
+        _ => {}
+    }
+}

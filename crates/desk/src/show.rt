@@ -1,0 +1,84 @@
+// What is printed: one line, or the lines of a network.
+use libc::STDOUT_FILENO;
+use network::evaluate::evaluate;
+use table::Answer;
+use table::Stage;
+use table::State;
+use text::held::held_lines;
+use text::line::answer_line;
+use text::line::number_line;
+use text::line::order_line;
+use text::line::row_line;
+
+// The bytes of a line, and of the lines of the largest network.
+const LINE: usize = 128;
+
+const LINES: usize = 65536;
+
+// Writes the first bytes of a text.
+fn write(text: &[u8], length: usize) {
+    if length <= text.len() {
+        io::write_all(STDOUT_FILENO, &text[..length]);
+    }
+}
+
+pub(crate) fn answer(word: &[u8], given: Answer) {
+    let mut line = [0u8; LINE];
+    let length = answer_line(&mut line, word, given);
+    write(&line, length);
+}
+
+pub(crate) fn number(word: &[u8], x: usize) {
+    let mut line = [0u8; LINE];
+    let length = number_line(&mut line, word, x);
+    write(&line, length);
+}
+
+pub(crate) fn order(state: State) {
+    let mut line = [0u8; LINE];
+    let length = order_line(&mut line, state);
+    write(&line, length);
+}
+
+pub(crate) fn stage(state: State) {
+    let stage = state.stage;
+    let count = state.count;
+    match stage {
+        Stage::Nothing => number(b"state nothing", count),
+        Stage::Table => number(b"state table", count),
+        Stage::Network => number(b"state network", count),
+    }
+}
+
+pub(crate) fn cells(state: State, roots: &[u16], cells: &[u16]) {
+    let mut lines = [0u8; LINES];
+    let length = held_lines(&mut lines, state, roots, cells);
+    write(&lines, length);
+}
+
+pub(crate) fn cared(state: State, care: &[u8]) {
+    let counted = table::cared::cared(state, care);
+    let Answer::Done(bits) = counted else {
+        return;
+    };
+    number(b"cared", bits);
+}
+
+fn row(state: State, row: usize, roots: &[u16], cells: &[u16]) {
+    let mut line = [0u8; LINE];
+    let length = row_line(&mut line, row, evaluate(state, row, roots, cells));
+    write(&line, length);
+}
+
+pub(crate) fn rows(state: State, roots: &[u16], cells: &[u16]) {
+    let n = state.n;
+    if n > table::VARIABLES {
+        return;
+    }
+    let end: usize = 1 << n;
+    let mut r: usize = 0;
+    while r < end {
+        row(state, r, roots, cells);
+        r += 1;
+    }
+}

@@ -1,0 +1,7 @@
+pub mod Alike
+pub mod Equal
+pub mod HeldAlike
+pub mod Answered
+pub mod Shown
+pub mod Planes
+pub mod Lendable

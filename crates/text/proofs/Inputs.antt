@@ -1,0 +1,49 @@
+-- An input that is too long, and one that is loaded.
+-- Assumes nothing.
+use mathlib.Core.Path.{_≡_, refl, sym, ap, _∙_}
+use mathlib.Core.Bool.{Bool, true, false, cond}
+use mathlib.Core.List.{List}
+use Prim.Native.Nat.{ℕ, _≤_, _<_}
+use borrow.Author.Tests.{lt-ltb, le-ltb}
+use lib.Dec.{ltb}
+use lib.ListN.{length}
+use Rattle.table.specs.declared.Answer.the-variants.{BadLength}
+use Rattle.table.specs.declared.Outcome.{Outcome}
+use Rattle.table.specs.declared.State.{State}
+use Rattle.table.specs.Calls.{loadOutcome, loadValues, loadCare}
+use Rattle.text.specs.Printed.{longestInput, tooLong, inputOutcome, inputValues, inputCare}
+
+is-long : (file : List ℕ) → 65536 < length file → tooLong file ≡ true
+unfolding longestInput
+is-long file h = lt-ltb 65536 (length file) h
+
+is-short : (file : List ℕ) → length file ≤ 65536 → tooLong file ≡ false
+unfolding longestInput
+is-short file h = le-ltb 65536 (length file) h
+
+module _ (file values care : List ℕ) where
+  module _ (h : 65536 < length file) where
+    pub long-outcome : (s : State) → record { answer = BadLength; state = s } ≡ inputOutcome s file values care
+    unfolding inputOutcome
+    long-outcome s = rw (is-long file h) refl
+
+    pub long-values : values ≡ inputValues file values care
+    unfolding inputValues
+    long-values = rw (is-long file h) refl
+
+    pub long-care : care ≡ inputCare file values care
+    unfolding inputCare
+    long-care = rw (is-long file h) refl
+
+  module _ (h : length file ≤ 65536) where
+    pub short-outcome : (s : State) (r : Outcome) → r ≡ loadOutcome s file values care → r ≡ inputOutcome s file values care
+    unfolding inputOutcome
+    short-outcome s r e = rw (is-short file h) e
+
+    pub short-values : (l : List ℕ) → l ≡ loadValues file values care → l ≡ inputValues file values care
+    unfolding inputValues
+    short-values l e = rw (is-short file h) e
+
+    pub short-care : (l : List ℕ) → l ≡ loadCare file values care → l ≡ inputCare file values care
+    unfolding inputCare
+    short-care l e = rw (is-short file h) e

@@ -1,0 +1,48 @@
+// Document 01's number and value of an answer.
+use table::Answer;
+ghost use mathlib.Core.Path.{_≡_};
+ghost use Rattle.table.specs.Answer.{number, value};
+
+pub(crate) fn number_of(answer: Answer) -> usize
+    ensures { λ r. ⌜ r ≡ number answer ⌝ }
+{
+    match answer {
+        Answer::Done(_) => 0,
+        Answer::BadLength => 1,
+        Answer::BadCheck => 2,
+        Answer::BadKind => 3,
+        Answer::BadInputs => 4,
+        Answer::BadOutputs => 5,
+        Answer::BadOrder => 6,
+        Answer::BadContent => 7,
+        Answer::NoRow => 8,
+        Answer::NoPlace => 9,
+        Answer::ShortBuffer => 10,
+        Answer::NoTable => 21,
+        Answer::NoNetwork => 22,
+        Answer::TooSmall(_) => 23,
+        Answer::BadCells => 24,
+    }
+}
+
+pub(crate) fn value_of(answer: Answer) -> usize
+    ensures { λ r. ⌜ r ≡ value answer ⌝ }
+{
+    match answer {
+        Answer::Done(found) => found,
+        Answer::TooSmall(wanted) => wanted,
+        Answer::BadLength => 0,
+        Answer::BadCheck => 0,
+        Answer::BadKind => 0,
+        Answer::BadInputs => 0,
+        Answer::BadOutputs => 0,
+        Answer::BadOrder => 0,
+        Answer::BadContent => 0,
+        Answer::NoRow => 0,
+        Answer::NoPlace => 0,
+        Answer::ShortBuffer => 0,
+        Answer::NoTable => 0,
+        Answer::NoNetwork => 0,
+        Answer::BadCells => 0,
+    }
+}

@@ -1,0 +1,79 @@
+"""Makes every NAME.table of this folder from its drawing, NAME.txt.
+
+    python3 examples/make.py
+
+Of a drawing only indented lines count. Those with a bar are the table: first the
+names of the inputs, a bar and those of the outputs, then every row from row 0,
+with `-` for a free value. A line `places` names the inputs from the top place
+down; without one they stand as in the columns. The rest is for the reader.
+"""
+
+import sys
+from pathlib import Path
+
+HERE = Path(__file__).resolve().parent
+sys.path.insert(0, str(HERE.parent / "tests"))
+
+import files
+
+INDENT = "    "
+
+
+def indented(text):
+    lines = text.splitlines()
+    return [line for line in lines if line.startswith(INDENT) and line.strip()]
+
+
+def marks(line):
+    """The words left and right of a line's bar."""
+    left, right = line.split("|")
+    return left.split(), right.split()
+
+
+def check_rows(rows, inputs, outputs):
+    """Every row once, in sequence, with a mark for each output."""
+    n = len(inputs)
+    wanted = [list(format(row, f"0{n}b")) for row in range(2**n)]
+    if [left for left, _ in rows] != wanted:
+        raise ValueError("the rows are not every row from row 0")
+    for left, right in rows:
+        if len(right) != len(outputs) or not set(right) <= set("01-"):
+            raise ValueError(f"row {' '.join(left)} is drawn wrong")
+
+
+def drawn_rows(text):
+    """The names of the inputs and outputs, and each row's output marks."""
+    heading, *rows = [marks(line) for line in indented(text) if "|" in line]
+    check_rows(rows, *heading)
+    return heading[0], heading[1], [right for _, right in rows]
+
+
+def drawn_order(text, inputs):
+    for line in indented(text):
+        word, *names = line.split()
+        if word == "places":
+            return [inputs.index(name) for name in names]
+    return list(range(len(inputs)))
+
+
+def table_of(text):
+    """The table file of a drawing."""
+    inputs, outputs, rows = drawn_rows(text)
+    drawn = [row[j] for j in range(len(outputs)) for row in rows]
+    values = [int(mark == "1") for mark in drawn]
+    care = [int(mark != "-") for mark in drawn]
+    order = drawn_order(text, inputs)
+    return files.table_file(len(inputs), len(outputs), order, values, care)
+
+
+def drawings():
+    return sorted(HERE.glob("*.txt"))
+
+
+def main():
+    for drawing in drawings():
+        drawing.with_suffix(".table").write_bytes(table_of(drawing.read_text()))
+
+
+if __name__ == "__main__":
+    main()
