@@ -72,8 +72,8 @@ class Desk:
         return " ".join(["order"] + [str(i) for i in reference.used_order(self.state)])
 
     def cared_line(self):
-        bits = reference.stream_bits(self.care, self.state.m * 2**self.state.n)
-        return f"cared {sum(bits)}"
+        _, bits = reference.cared(self.state, self.care)
+        return f"cared {bits}"
 
     def cell_lines(self):
         """The held cells and roots, if a network is held."""

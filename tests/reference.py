@@ -347,6 +347,15 @@ def count(state, values, care, work):
     return 0, cost(lent_table(state, values, care), used_order(state))
 
 
+def cared(state, care):
+    """Section 8's number of cared bits in the stream, refused like the others."""
+    if len(care) < TABLE_BYTES:
+        return 10, 0
+    if stage_of(state) == NOTHING:
+        return 21, 0
+    return 0, sum(stream_bits(care, state.m * 2**state.n))
+
+
 def build(state, values, care, work, roots, cells):
     if table_buffers_short(values, care, work) or len(roots) < ROOTS:
         return 10, 0
