@@ -3,10 +3,10 @@
 use mathlib.Core.Path.{_≡_, refl, sym, ap, ap₂, _∙_}
 use mathlib.Core.Bool.{Bool, true, false, cond}
 use Prim.Native.Nat.{ℕ, zero, suc, _+_, _*_, _-_, _/_, _%_, _^_, _≤_, _<_}
-use native.Mathlib.Nat.{not-suc-le-zero, div-one, add-zero, zero-add}
+use native.Mathlib.Nat.{not-suc-le-zero, div-one, one-mul, mod-eq-of-lt, add-zero, zero-add}
 use native.Mathlib.Omega.{arith}
 use lib.Dec.{eqb, eqb→eq}
-use lib.Pow.{shr-shr}
+use lib.Pow.{pow-lt, shr-shr}
 use Rattle.diagram.specs.Lists.{digit, number, bit}
 use Rattle.diagram.specs.Tree.{draw, at}
 use Rattle.diagram.proofs.Bools.{split, to-T}
@@ -15,6 +15,14 @@ use Rattle.diagram.proofs.Numbers.{below-other}
 pub digit-le : (b : Bool) → digit b ≤ 1
 digit-le true = omega arith
 digit-le false = omega arith
+
+pub digit-part-le : (b : Bool) (n : ℕ) → digit b * n ≤ n
+digit-part-le true n = omega arith
+digit-part-le false n = omega arith
+
+-- 1 shifted up in a word of 64 bits
+pub one-shifted : (k : ℕ) → k < 64 → 1 * 2 ^ k % 2 ^ 64 ≡ 2 ^ k
+one-shifted k h = ap (λ (x : ℕ). x % 2 ^ 64) (one-mul (2 ^ k)) ∙ mod-eq-of-lt (pow-lt h)
 
 pub number-lt : (n : ℕ) (a : ℕ → Bool) → number n a < 2 ^ n
 number-lt zero a = omega arith
@@ -45,11 +53,11 @@ rest-digit : (m : ℕ) (b : Bool) → (2 * m + digit b) % 2 ≡ digit b
 rest-digit m true = omega arith
 rest-digit m false = omega arith
 
-eqb-digit : (b : Bool) → eqb (digit b) 1 ≡ b
+pub eqb-digit : (b : Bool) → eqb (digit b) 1 ≡ b
 eqb-digit true = refl
 eqb-digit false = refl
 
-digit-eqb : (k : ℕ) → k < 2 → digit (eqb k 1) ≡ k
+pub digit-eqb : (k : ℕ) → k < 2 → digit (eqb k 1) ≡ k
 digit-eqb zero h = refl
 digit-eqb (suc zero) h = refl
 digit-eqb (suc (suc k)) h = absurd (omega arith)

@@ -2,13 +2,12 @@
 -- Assumes nothing.
 use mathlib.Core.Path.{_≡_, sym, ap, _∙_, subst}
 use mathlib.Core.Bool.{Bool, true, false, _&&_}
-use mathlib.Core.List.{List, [], _∷_, map}
-use Prim.Native.Nat.{ℕ, zero, suc, _+_, _≤_, _<_, _^_}
-use native.Mathlib.Nat.{le-refl, le-trans, not-suc-le-zero}
+use mathlib.Core.List.{List, map}
+use Prim.Native.Nat.{ℕ, _+_, _≤_, _<_, _^_}
+use native.Mathlib.Nat.{le-refl, le-trans}
 use native.Mathlib.Omega.{arith}
-use lib.Dec.{T, eqb, ltb, eqb→eq, ltb→lt, nltb→le}
-use lib.ListN.{length, getD, length-map, List·getD-append}
-use lib.Seq.{getD-at}
+use lib.Dec.{T, eqb, eqb→eq}
+use lib.ListN.{length, getD}
 use Rattle.diagram.specs.Lists.{upTo, number, index}
 use Rattle.diagram.specs.Tree.{Tree, at, full, inverted}
 use Rattle.diagram.specs.Fill.{Row}
@@ -17,8 +16,7 @@ use Rattle.diagram.specs.Network.{network, count}
 use Rattle.diagram.specs.Order.{isOrder, rowUnder}
 use Rattle.diagram.specs.Table.{Table, reordered, filled, filledBit, networkOf, cost, Computes, Solves}
 use Rattle.diagram.specs.Demands.{Kept, Least, FitsFrom}
-use Rattle.diagram.proofs.Bools.{split, to-T, to-not}
-use Rattle.diagram.proofs.Lists.{all-at, getD-map}
+use Rattle.diagram.proofs.Lists.{all-at}
 use Rattle.diagram.proofs.Tree.{tree-ext, at-above, inverted-false}
 use Rattle.diagram.proofs.Fill.{fill-length}
 use Rattle.diagram.proofs.Kept.{kept-at}
@@ -27,22 +25,14 @@ use Rattle.diagram.proofs.Right.{network-formed, network-gives}
 use Rattle.diagram.proofs.Function.{function, Good, function-gives}
 use Rattle.diagram.proofs.Evaluate.{formed-length, formed-roots, formed-nodes, from-top}
 use Rattle.diagram.proofs.Least.{Reaches, every-at, least-trees}
-use Rattle.diagram.proofs.Numbers.{length-upTo}
+use Rattle.diagram.proofs.UpTo.{length-map-upTo, getD-map-upTo}
 use Rattle.diagram.proofs.Order.{row-of, at-reordered}
-
-getD-upTo : (n j : ℕ) → j < n → getD (upTo n) j 0 ≡ j
-getD-upTo zero j h = absurd (not-suc-le-zero h)
-getD-upTo (suc n) j h =
-    split (ltb j n)
-    (λ e. let k = ltb→lt j n (to-T e) in List·getD-append (upTo n) (n ∷ []) 0 j (omega (arith, length-upTo n)) ∙ getD-upTo n j k)
-    (λ e. let k : j ≡ n = omega (arith, nltb→le j n (to-not e)) in
-    getD-at (upTo n) n [] 0 j (length-upTo n ∙ sym k) ∙ sym k)
 
 module _ (inv : Bool) (t : Table) (order : List ℕ) where
   pub filled-length : length (filled inv t order) ≡ t .m
   unfolding filled
   filled-length =
-      fill-length inv (t .n) (map (reordered t order) (upTo (t .m))) ∙ length-map (upTo (t .m)) (reordered t order) ∙ length-upTo (t .m)
+      fill-length inv (t .n) (map (reordered t order) (upTo (t .m))) ∙ length-map-upTo (reordered t order) (t .m)
 
   -- kept: the filled table has every cared row as drawn
   pub kept : T (isOrder (t .n) order) → Kept inv t order
@@ -52,9 +42,9 @@ module _ (inv : Bool) (t : Table) (order : List ℕ) where
       let fs = map (reordered t order) (upTo (t .m)) in
       let a = rowUnder (t .n) order r in
       let found : getD fs j f₀ ≡ reordered t order j =
-      getD-map (reordered t order) (upTo (t .m)) j 0 f₀ (omega (arith, length-upTo (t .m))) ∙ ap (reordered t order) (getD-upTo (t .m) j hj) in
+      getD-map-upTo (reordered t order) (t .m) j f₀ hj in
       let there : at 0 a (getD fs j f₀) ≡ t .row j r = ap (at 0 a) found ∙ at-reordered t order o j r hr in
-      kept-at inv (t .n) fs j f₀ (full false (t .n)) (omega (arith, length-upTo (t .m), length-map (upTo (t .m)) (reordered t order))) 0 a
+      kept-at inv (t .n) fs j f₀ (full false (t .n)) (omega (arith, length-map-upTo (reordered t order) (t .m))) 0 a
       (subst (λ (x : Row). T (x .care)) (sym there) c)
       ∙ ap (λ (x : Row). x .value) there
 

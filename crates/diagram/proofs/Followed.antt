@@ -4,7 +4,7 @@
 use mathlib.Core.Path.{_≡_, refl, sym, ap, ap₂, _∙_, subst}
 use mathlib.Core.Bool.{Bool, true, false, not, Bool·beq, _&&_, _||_, true≢false}
 use mathlib.Core.List.{List, [], _∷_, map}
-use mathlib.Core.Logic.{_≢_, inl, inr}
+use mathlib.Core.Logic.{inl, inr}
 use Prim.Native.Nat.{ℕ, suc, _≤_, _<_}
 use native.Mathlib.Nat.{le-refl, not-suc-le-zero}
 use native.Mathlib.Omega.{arith}
@@ -16,8 +16,9 @@ use Rattle.diagram.specs.Tree.{Tree, full, inverted, first, same}
 use Rattle.diagram.specs.Fill.{Link, const, entry, follow}
 use Rattle.diagram.specs.Network.{normal}
 use Rattle.diagram.specs.Trace.{sameLink}
-use Rattle.diagram.proofs.Bools.{both-ways, split, of-T, of-not, to-T, absurd-T, and-T, and-l, and-r, or-l, or-r, beq→eq, beq-refl}
+use Rattle.diagram.proofs.Bools.{both-ways, split, of-T, of-not, to-T, and-T, and-l, and-r, or-l, or-r, beq→eq, beq-refl}
 use Rattle.diagram.proofs.Lists.{all-at, index-getD}
+use Rattle.diagram.proofs.Numbers.{below-other}
 use Rattle.diagram.proofs.Tree.{first-full, varies-full, same→eq, same-equality, eq→same, inverted-false, first-inverted, normal-inverted, varies}
 use Rattle.diagram.proofs.FirstSeen.{varies-inverted}
 use Rattle.diagram.proofs.FirstSeen.{isNew, fresh, seen-steady, seen-has, new-inverted, fresh-seen, fresh-new}
@@ -46,11 +47,6 @@ full-same v w d =
     (λ t. subst (λ b. T (Bool·beq v b)) (sym (first-full v d) ∙ ap first (same→eq (full v d) (full w d) t) ∙ first-full w d) (beq-refl v))
     (λ t. eq→same (ap (λ b. full b d) (beq→eq v w t)))
 
-apart-lt : (j k : ℕ) → j < suc k → eqb j k ≡ false → j < k
-apart-lt j k h e =
-    let f : j ≢ k = λ p. absurd-T (subst (λ n. T (eqb j n)) p (eqb-refl j)) e in
-    omega arith
-
 module _ {d : ℕ} (inv : Bool) (E : List (Tree Bool d)) (apart : T (distinct same (map (normal inv) E))) (varied : T (all varies E)) where
   -- the class tells the entry
   index-nth : (j : ℕ) → j < length E → index same (normal inv (nth E j)) (map (normal inv) E) ≡ j
@@ -74,7 +70,7 @@ module _ {d : ℕ} (inv : Bool) (E : List (Tree Bool d)) (apart : T (distinct sa
           let a = same (normal inv (nth E j)) (normal inv (nth E k)) in
           let b = has same (normal inv (nth E j)) gs in
           split (eqb j k) (λ e. or-l a b (eq→same (ap (λ q. normal inv (nth E q)) (eqb→eq j k (to-T e)))))
-          (λ e. or-r a b (m .before j (apart-lt j k p e)))
+          (λ e. or-r a b (m .before j (below-other j k p e)))
 
       after : (j : ℕ) → suc k ≤ j → j < length E → has same (normal inv (nth E j)) (normal inv (nth E k) ∷ gs) ≡ false
       after j p g =

@@ -13,7 +13,7 @@ use Rattle.diagram.specs.Tree.{Tree, leaf, node, half, at, inverted}
 use Rattle.diagram.specs.Diagram.{Node, Diagram, edge, target, inverts, nodeAt, later, nodeGood, gives}
 use Rattle.diagram.proofs.Bools.{split, to-T, to-not, absurd-T, and-l, and-r}
 use Rattle.diagram.proofs.Lists.{all-at}
-use Rattle.diagram.proofs.Tree.{at-inverted}
+use Rattle.diagram.proofs.Tree.{at-inverted, cond-same}
 use Rattle.diagram.proofs.Reference.{target-lt, from, from-node, from-reached, from-constant}
 use Rattle.diagram.proofs.Right.{gives-node, at-half}
 
@@ -97,10 +97,6 @@ at-here inv D a d p r e =
     (at-inverted p a (inverts inv r) (node (function inv D d (suc p) (c .low)) (function inv D d (suc p) (c .high)))
     ∙ ap (flip (inverts inv r)) (at-half p a (node (function inv D d (suc p) (c .low)) (function inv D d (suc p) (c .high)))
     ∙ ap (at (suc p) a) (half-function inv D d (suc p) c (a p))))
-
-cond-same : {A : Type 0} (b : Bool) (x : A) → cond b x x ≡ x
-cond-same true x = refl
-cond-same false x = refl
 
 at-past : (inv : Bool) (D : Diagram) (a : ℕ → Bool) (d p r : ℕ) → here inv D p r ≡ false
     → at p a (function inv D (suc d) p r) ≡ at (suc p) a (function inv D d (suc p) r)

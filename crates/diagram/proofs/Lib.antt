@@ -1,6 +1,7 @@
 pub mod Bools
 pub mod Lists
 pub mod Numbers
+pub mod UpTo
 pub mod Bits
 pub mod Tree
 pub mod Merge

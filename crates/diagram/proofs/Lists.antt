@@ -1,7 +1,7 @@
 -- Laws of membership, index and first-seen sequence, over any test for equality; and the pigeonhole.
 -- Assumes nothing.
 use mathlib.Core.Path.{_≡_, refl, sym, ap, _∙_, subst}
-use mathlib.Core.Bool.{Bool, true, false, not, _||_}
+use mathlib.Core.Bool.{Bool, true, false, not, _&&_, _||_, and-assoc}
 use mathlib.Core.List.{List, [], _∷_, _++_, map}
 use mathlib.Core.Logic.{⊎-elim}
 use Prim.Native.Nat.{ℕ, zero, suc, _≤_, _<_, zero-le, suc-le-suc}
@@ -28,6 +28,14 @@ module _ {A : Type 0} where
   pub all-append : (p : A → Bool) (xs ys : List A) → T (all p xs) → T (all p ys) → T (all p (xs ++ ys))
   all-append p [] ys s t = t
   all-append p (x ∷ xs) ys s t = and-T (p x) (all p (xs ++ ys)) (and-l (p x) (all p xs) s) (all-append p xs ys (and-r (p x) (all p xs) s) t)
+
+  pub all-append-and : (p : A → Bool) (xs ys : List A) → all p (xs ++ ys) ≡ all p xs && all p ys
+  all-append-and p [] ys = refl
+  all-append-and p (x ∷ xs) ys = ap (λ (b : Bool). p x && b) (all-append-and p xs ys) ∙ sym (and-assoc (p x) (all p xs) (all p ys))
+
+  pub all-mapped : {B : Type 0} (q : B → Bool) (f : A → B) (xs : List A) → all q (map f xs) ≡ all (λ x. q (f x)) xs
+  all-mapped q f [] = refl
+  all-mapped q f (x ∷ xs) = ap (λ (b : Bool). q (f x) && b) (all-mapped q f xs)
 
   pub keep-length : (p : A → Bool) (xs : List A) → length (keep p xs) ≤ length xs
   keep-length p [] = zero-le
@@ -58,6 +66,14 @@ module _ {A : Type 0} (eq : A → A → Bool) (E : Equality eq) where
   pub has-all : (p : A → Bool) (xs : List A) → ((x : A) → T (has eq x xs) → T (p x)) → T (all p xs)
   has-all p [] f = tt
   has-all p (y ∷ ys) f = and-T (p y) (all p ys) (f y (has-here y ys)) (has-all p ys (λ x h. f x (or-r (eq x y) (has eq x ys) h)))
+
+  -- two tests that agree on a list keep the same of it
+  pub keep-cong : (p q : A → Bool) (xs : List A) → ((x : A) → T (has eq x xs) → p x ≡ q x) → keep p xs ≡ keep q xs
+  keep-cong p q [] e = refl
+  keep-cong p q (x ∷ xs) e =
+      let r = keep-cong p q xs (λ y h. e y (or-r (eq y x) (has eq y xs) h)) in
+      let d : p x ≡ q x = e x (has-here x xs) in
+      rw (d, r)
 
   pub has-keep : (p : A → Bool) (x : A) (xs : List A) → T (has eq x xs) → T (p x) → T (has eq x (keep p xs))
   has-keep p x [] h t = h

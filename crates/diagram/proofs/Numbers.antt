@@ -1,17 +1,18 @@
 -- Numbers by test: what it says that two differ, and the numbers below n.
 -- Assumes nothing.
 use mathlib.Core.Path.{_≡_, refl, sym, ap, _∙_, subst}
-use mathlib.Core.Bool.{Bool, true, false, not, _&&_}
-use mathlib.Core.List.{List, [], _∷_, _++_}
+use mathlib.Core.Bool.{Bool, true, false, not, _&&_, and-true}
+use mathlib.Core.List.{List, [], _∷_}
 use mathlib.Core.Logic.{_≢_}
-use Prim.Native.Nat.{ℕ, zero, suc, _≤_, _<_}
+use Prim.Native.Nat.{ℕ, zero, suc, _+_, _≤_, _<_}
 use native.Mathlib.Nat.{not-suc-le-zero}
+use native.Mathlib.Numerals.{add-one}
 use native.Mathlib.Omega.{arith}
 use lib.Dec.{T, eqb, ltb, eqb→eq, eqb-refl, ltb→lt, lt→ltb}
 use lib.ListN.{length, length-append}
 use Rattle.diagram.specs.Lists.{all, has, distinct, upTo}
 use Rattle.diagram.proofs.Bools.{split, to-T, to-not, absurd-T, and-T, or-l}
-use Rattle.diagram.proofs.Lists.{eqb-equality, all-has, has-all, all-append, has-append-l, has-append-r, pigeonhole}
+use Rattle.diagram.proofs.Lists.{eqb-equality, all-has, has-all, all-append, all-append-and, has-append-l, has-append-r, pigeonhole}
 
 pub differ : (m n : ℕ) → eqb m n ≡ false → m ≢ n
 differ m n e p = absurd-T (subst (λ (k : ℕ). T (eqb m k)) p (eqb-refl m)) e
@@ -66,19 +67,10 @@ none-missing n xs d b l v h =
 -- a test over the numbers below n, one number at a time
 
 pub all-upTo-suc : (p : ℕ → Bool) (n : ℕ) → all p (upTo (suc n)) ≡ all p (upTo n) && p n
-all-upTo-suc p n = all-snoc p (upTo n) n
-  where
-    and-true : (b : Bool) → b && true ≡ b
-    and-true true = refl
-    and-true false = refl
+all-upTo-suc p n = all-append-and p (upTo n) (n ∷ []) ∙ ap (λ (b : Bool). all p (upTo n) && b) (and-true (p n))
 
-    and-assoc : (a b c : Bool) → a && (b && c) ≡ a && b && c
-    and-assoc true b c = refl
-    and-assoc false b c = refl
-
-    all-snoc : (q : ℕ → Bool) (xs : List ℕ) (x : ℕ) → all q (xs ++ (x ∷ [])) ≡ all q xs && q x
-    all-snoc q [] x = and-true (q x)
-    all-snoc q (y ∷ ys) x = ap (λ (b : Bool). q y && b) (all-snoc q ys x) ∙ and-assoc (q y) (all q ys) (q x)
+pub all-upTo-more : (p : ℕ → Bool) (n : ℕ) → all p (upTo n) ≡ true → p n ≡ true → all p (upTo (n + 1)) ≡ true
+all-upTo-more p n a e = rw (add-one n, all-upTo-suc p n, a, e)
 
 pub all-upTo-at : (p : ℕ → Bool) (n : ℕ) → T (all p (upTo n)) → (i : ℕ) → i < n → T (p i)
 all-upTo-at p n t i h = all-has eqb eqb-equality p (upTo n) t i (has-upTo i n h)

@@ -23,6 +23,10 @@ to-order n order l b d =
     and-T (eqb (length order) n) _ (subst (λ (k : ℕ). T (eqb (length order) k)) l (eqb-refl (length order)))
     (and-T (all (λ v. ltb v n) order) (distinct eqb order) b d)
 
+pub behind-lt : (n : ℕ) (order : List ℕ) (x : ℕ) → behind n order x < 2 ^ n
+unfolding behind
+behind-lt n order x = number-lt n _
+
 module _ (n : ℕ) (order : List ℕ) (o : T (isOrder n order)) where
   pub order-length : length order ≡ n
   unfolding isOrder

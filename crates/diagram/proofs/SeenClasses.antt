@@ -1,6 +1,6 @@
 -- The classes of a list of segments are those of the functions seen first that depend on the top variable.
 -- Assumes nothing.
-use mathlib.Core.Path.{_≡_, refl, sym, ap, ap₂, _∙_, subst}
+use mathlib.Core.Path.{_≡_, refl, sym, ap, _∙_, subst}
 use mathlib.Core.Bool.{Bool, true, false, not, cond}
 use mathlib.Core.List.{List, [], _∷_, map}
 use mathlib.Core.Logic.{⊎-elim}
@@ -10,15 +10,11 @@ use Rattle.diagram.specs.Lists.{all, keep, has, without, firsts}
 use Rattle.diagram.specs.Tree.{Tree, same}
 use Rattle.diagram.specs.Network.{depends, normal, classes}
 use Rattle.diagram.proofs.Bools.{both-ways, split, to-T, absurd-T, and-T, or-r, or-cases}
-use Rattle.diagram.proofs.Lists.{Equality, all-has, firsts-has, without-none}
+use Rattle.diagram.proofs.Lists.{Equality, all-has, firsts-has, without-none, keep-cong}
 use Rattle.diagram.proofs.Tree.{same-equality, depends-normal, varies}
 use Rattle.diagram.proofs.FirstSeen.{steady-depends, isNew, fresh}
 
 module _ {A : Type 0} where
-  keep-agree : (p q : A → Bool) → ((x : A) → p x ≡ q x) → (xs : List A) → keep p xs ≡ keep q xs
-  keep-agree p q f [] = refl
-  keep-agree p q f (x ∷ xs) = ap₂ (λ (b : Bool) (l : List A). cond b (x ∷ l) l) (f x) (keep-agree p q f xs)
-
   keep-all : (xs : List A) → keep (λ x. true) xs ≡ xs
   keep-all [] = refl
   keep-all (x ∷ xs) = ap (λ (l : List A). x ∷ l) (keep-all xs)
@@ -43,11 +39,10 @@ module _ {A : Type 0} (eq : A → A → Bool) (E : Equality eq) where
   -- one that stands in gs already
   less-again : (n : A) (gs xs : List A) → T (has eq n gs) → less eq (n ∷ gs) xs ≡ less eq gs xs
   less-again n gs xs t =
-      keep-agree (λ x. not (has eq x (n ∷ gs))) (λ x. not (has eq x gs))
-      (λ x. ap not (both-ways (has eq x (n ∷ gs)) (has eq x gs)
+      keep-cong eq E (λ x. not (has eq x (n ∷ gs))) (λ x. not (has eq x gs)) xs
+      (λ x _. ap not (both-ways (has eq x (n ∷ gs)) (has eq x gs)
       (λ h. ⊎-elim (λ s. subst (λ z. T (has eq z gs)) (sym (E .sound x n s)) t) (λ s. s) (or-cases (eq x n) (has eq x gs) h))
       (λ h. or-r (eq x n) (has eq x gs) h)))
-      xs
 
   -- one that doesn't stand in xs
   less-other : (n : A) (gs xs : List A) → has eq n xs ≡ false → less eq (n ∷ gs) xs ≡ less eq gs xs

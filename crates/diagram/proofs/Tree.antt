@@ -163,13 +163,13 @@ tree-ext p (node l h) (node l′ h′) f =
     part : (b : Bool) (a : ℕ → Bool) → at (suc p) a (half b (node l h)) ≡ at (suc p) a (half b (node l′ h′))
     part b a = sym (at-with p b a (node l h)) ∙ f (with p b a) ∙ at-with p b a (node l′ h′)
 
+pub cond-same : {A : Type 0} (b : Bool) (x : A) → cond b x x ≡ x
+cond-same true x = refl
+cond-same false x = refl
+
 pub at-full : {A : Type 0} (d p : ℕ) (a : ℕ → Bool) (x : A) → at p a (full x d) ≡ x
 at-full zero p a x = refl
-at-full (suc d) p a x = rw (at-full d (suc p) a x) (step (a p))
-  where
-    step : (c : Bool) → cond c x x ≡ x
-    step true = refl
-    step false = refl
+at-full (suc d) p a x = rw (at-full d (suc p) a x) (cond-same (a p) x)
 
 -- constants
 

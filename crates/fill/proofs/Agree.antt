@@ -1,6 +1,6 @@
 -- The tests and the merge on the bytes of entries are those of the filling on the entries themselves.
 -- Assumes nothing.
-use mathlib.Core.Path.{_≡_, refl, ap₂, _∙_}
+use mathlib.Core.Path.{_≡_, refl, sym, ap₂, _∙_}
 use mathlib.Core.Bool.{Bool, _&&_}
 use mathlib.Core.List.{_++_}
 use Prim.Native.Nat.{ℕ, _*_, _+_, _^_}
@@ -8,11 +8,11 @@ use lib.Bits.{bitOr, or-block}
 use Rattle.diagram.specs.Lists.{upTo}
 use Rattle.diagram.specs.Tree.{Tree, leaf, node}
 use Rattle.diagram.specs.Fill.{Row, always, agree, merge}
+use Rattle.diagram.proofs.Lists.{all-mapped}
 use Rattle.fill.specs.Bytes.{alwaysByte, agreeByte, mergeByte}
 use Rattle.fill.specs.Pack.{width, num, encode}
 use Rattle.fill.specs.Parts.{valueByte, careByte, alwaysPart, agreePart, mergePart}
 use Rattle.fill.proofs.PackLaws.{num-lt}
-use Rattle.fill.proofs.UpTo.{all-answers}
 use Rattle.fill.proofs.Blocks.{always-block, agree-block, merge-block, always-digit, agree-digit, merge-digit, or-digit}
 use Rattle.fill.proofs.Planes.{tested, made}
 
@@ -55,15 +55,15 @@ module _ (i : Bool) where
 pub always-bytes : {d : ℕ} (v : Bool) (f : Tree Row d) → alwaysPart v (width d) (encode f) ≡ always v f
 unfolding alwaysPart
 always-bytes {d} v f =
-    all-answers (λ j. alwaysByte v (valueByte (encode f) j) (careByte (width d) (encode f) j)) (upTo (width d))
+    sym (all-mapped (λ b. b) (λ j. alwaysByte v (valueByte (encode f) j) (careByte (width d) (encode f) j)) (upTo (width d)))
     ∙ tested (λ a c b e. alwaysByte v a c) (λ d f g. always v f) (λ d f g. always-num v f) (λ d l h l′ h′. refl) d f f
 
 pub agree-bytes : {d : ℕ} (i : Bool) (f g : Tree Row d) → agreePart i (width d) (encode f) (encode g) ≡ agree i f g
 unfolding agreePart
 agree-bytes {d} i f g =
-    all-answers
+    sym (all-mapped (λ b. b)
     (λ j. agreeByte i (valueByte (encode f) j) (careByte (width d) (encode f) j) (valueByte (encode g) j) (careByte (width d) (encode g) j))
-    (upTo (width d))
+    (upTo (width d)))
     ∙ tested (agreeByte i) (λ d. agree i) (λ d. agree-num i) (λ d l h l′ h′. refl) d f g
 
 pub merge-bytes : {d : ℕ} (i : Bool) (f g : Tree Row d) → mergePart i (width d) (encode f) (encode g) ≡ encode (merge i f g)

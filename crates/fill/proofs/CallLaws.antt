@@ -1,15 +1,14 @@
 -- What the calls answer and leave, by the test that led there.
 -- Assumes nothing.
 use mathlib.Core.Path.{_≡_, refl, sym, ap, _∙_}
-use mathlib.Core.Bool.{Bool, true, false, not, _&&_, false≢true}
+use mathlib.Core.Bool.{Bool, true, false, not, _&&_, false≢true, and-false}
 use mathlib.Core.List.{List}
 use Prim.Native.Nat.{ℕ, _≤_, _<_}
 use native.Mathlib.Omega.{arith}
 use borrow.Author.Tests.{le-leb, lt-leb}
 use lib.Dec.{T, leb, leb→le}
 use lib.ListN.{length}
-use Rattle.diagram.specs.Network.{count}
-use Rattle.diagram.specs.Table.{filled, cost}
+use Rattle.diagram.specs.Table.{cost}
 use Rattle.diagram.proofs.Bools.{split, to-T, and-r}
 use Rattle.table.specs.declared.Answer.{Answer}
 use Rattle.table.specs.declared.Answer.the-variants.{Done, ShortBuffer, NoTable}
@@ -21,10 +20,6 @@ use Rattle.fill.specs.Work.{workSize, zeroWork, clearedWork}
 use Rattle.fill.specs.Calls.{heldTable, enough, countAnswer, countWork, levelsOf, linksWork}
 use Rattle.fill.specs.Filling.{filledWork, filledLevels, refusedLevels}
 use Rattle.fill.proofs.HeldFillings.{filled-past}
-
-and-false : (a : Bool) → (a && false) ≡ false
-and-false true = refl
-and-false false = refl
 
 module _ (s : State) (values care work : List ℕ) where
   -- the answer

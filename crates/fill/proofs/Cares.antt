@@ -3,7 +3,7 @@
 -- Assumes nothing.
 use mathlib.Core.Path.{_≡_, refl, sym, ap, ap₂, _∙_}
 use mathlib.Core.Bool.{Bool, true, false, not, cond, _&&_}
-use mathlib.Core.List.{List, map}
+use mathlib.Core.List.{List, map, map-map}
 use Prim.Native.Nat.{ℕ, suc, _+_, _*_, _^_, _≤_, _<_}
 use native.Mathlib.Nat.{mul-le-mul-right}
 use native.Mathlib.Omega.{arith}
@@ -14,7 +14,8 @@ use Rattle.diagram.specs.Order.{behind}
 use Rattle.diagram.specs.Fill.{Link, fill, trace}
 use Rattle.diagram.specs.Network.{count}
 use Rattle.diagram.specs.Table.{reordered, filled, cost}
-use Rattle.diagram.proofs.Bits.{number-lt}
+use Rattle.diagram.proofs.UpTo.{map-upTo-cong}
+use Rattle.diagram.proofs.Order.{behind-lt}
 use Rattle.table.specs.Stream.{streamBit}
 use Rattle.table.specs.declared.State.{State}
 use Rattle.table.specs.declared.Answer.{Answer}
@@ -23,8 +24,6 @@ use Rattle.table.specs.Answer.{unless, done}
 use Rattle.table.specs.State.{orderOf, stageOf, isNothing}
 use Rattle.fill.specs.Work.{traceWork}
 use Rattle.fill.specs.Calls.{heldTable, enough, countAnswer, drawnOutputs, levelsOf, linksWork, entryCounts}
-use Rattle.fill.proofs.UpTo.{map-upTo-cong}
-use Rattle.fill.proofs.Fillings.{map-map}
 use Rattle.fill.proofs.Masked.{mask, masked, fill-masked, trace-masked, counts-masked, draw-masked}
 
 -- the first `bits` bits agree on care, and on values where they are cared
@@ -36,13 +35,9 @@ and-alike : (c v v′ : Bool) → (T c → v ≡ v′) → (c && v) ≡ (c && v�
 and-alike true v v′ h = h tt
 and-alike false v v′ h = refl
 
-mask-alike : (c c′ v v′ : Bool) → c ≡ c′ → (T c → v ≡ v′) → mask (record { value = v; care = c }) ≡ mask (record { value = v′; care = c′ })
+pub mask-alike : (c c′ v v′ : Bool) → c ≡ c′ → (T c → v ≡ v′) → mask (record { value = v; care = c }) ≡ mask (record { value = v′; care = c′ })
 mask-alike c c′ v v′ e h =
     ap₂ (λ (b d : Bool). record { value = b; care = d }) (and-alike c v v′ h ∙ ap (λ (b : Bool). b && v′) e) e
-
-behind-lt : (n : ℕ) (order : List ℕ) (x : ℕ) → behind n order x < 2 ^ n
-unfolding behind
-behind-lt n order x = number-lt n _
 
 module _ (s : State) (values care values′ care′ : List ℕ) (alike : Alike (s .m * 2 ^ s .n) values care values′ care′) where
   -- a row of an output stands within the stream

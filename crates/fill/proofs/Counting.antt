@@ -10,8 +10,9 @@ use native.Mathlib.Omega.{arith}
 use borrow.Author.Tests.{eq-eqb, ne-eqb}
 use lib.Dec.{eqb}
 use lib.ListN.{length, getD, take, drop, set, length-append, drop-of-length-le}
-use lib.Seq.{length-take-le, drop-cons, getD-take}
+use lib.Seq.{drop-cons}
 use Rattle.diagram.specs.Lists.{digit}
+use Rattle.table.proofs.Orders.{rest-cons, rest-none}
 use Rattle.fill.specs.Calls.{tenOf}
 use Rattle.fill.specs.Counts.{pairDiffers, differingPairs, countsAt, linksEnd}
 use Rattle.fill.proofs.Tens.{ten-more, sum-cons}
@@ -53,15 +54,13 @@ module _ (work : List ℕ) (start n : ℕ) (entries : List ℕ) (fits : n ≤ le
   pub counting-last : (p at : ℕ) (counts : List ℕ) → p ≡ n → Counting work start n entries p at counts
       → counts ≡ tenOf (countsAt work start (take n entries))
   counting-last p at counts e c =
-      let none : drop p (take n entries) ≡ [] = drop-of-length-le (take n entries) {i = p} (omega (arith, length-take-le n entries fits)) in
+      let none : drop p (take n entries) ≡ [] = rest-none entries n p fits (omega arith) in
       c .recorded
       ∙ ap tenOf (sym (append-nil (c .passed)) ∙ ap (λ (ks : List ℕ). c .passed ++ countsAt work at ks) (sym none) ∙ c .all-counts)
 
   module _ (p at : ℕ) (counts : List ℕ) (more : p < n) (c : Counting work start n entries p at counts) where
     here : drop p (take n entries) ≡ getD entries p 0 ∷ drop (p + 1) (take n entries)
-    here =
-        drop-cons (take n entries) p 0 (omega (arith, length-take-le n entries fits))
-        ∙ ap₂ (λ (x : ℕ) (j : ℕ). x ∷ drop j (take n entries)) (getD-take n entries p 0 more) (sym (add-one p))
+    here = rest-cons entries n p fits more ∙ ap (λ (j : ℕ). getD entries p 0 ∷ drop j (take n entries)) (sym (add-one p))
 
     ends-here : linksEnd (at + 4 * getD entries p 0) (drop (p + 1) (take n entries)) ≡ linksEnd start (take n entries)
     ends-here = ap (linksEnd at) (sym here) ∙ c .ends

@@ -10,10 +10,10 @@ use lib.ListN.{getD}
 use lib.Pow.{pow-add, pow-mono}
 use Rattle.diagram.specs.Lists.{digit, upTo}
 use Rattle.diagram.specs.Tree.{draw}
+use Rattle.diagram.proofs.UpTo.{map-upTo-cong, map-upTo-add, getD-map-upTo}
 use Rattle.fill.specs.Pack.{width, num, pack}
 use Rattle.fill.specs.Gather.{gathered}
 use Rattle.fill.proofs.PackLaws.{width-small, width-suc, width-rows, pack-small, pack-node}
-use Rattle.fill.proofs.UpTo.{map-upTo-cong, map-upTo-add, getD-upTo}
 use Rattle.fill.proofs.Planes.{by-width}
 
 pub gathered-cong : (k : ℕ) (f g : ℕ → Bool) → ((b : ℕ) → b < k → f b ≡ g b) → gathered k f ≡ gathered k g
@@ -87,7 +87,7 @@ module _ {A : Type 0} (p : A → Bool) where
   pub draw-byte : (d : ℕ) (f : ℕ → A) (s j : ℕ) → 3 ≤ d → j < width d
       → getD (pack p (draw d f s)) j 0 ≡ gathered 8 (λ b. p (f (2 ^ d * s + (8 * j + b))))
   draw-byte d f s j h k =
-      ap (λ l. getD l j 0) (draw-large d f s h) ∙ getD-upTo (λ j. gathered 8 (λ b. p (f (2 ^ d * s + (8 * j + b))))) (width d) j 0 k
+      ap (λ l. getD l j 0) (draw-large d f s h) ∙ getD-map-upTo (λ j. gathered 8 (λ b. p (f (2 ^ d * s + (8 * j + b))))) (width d) j 0 k
 
   -- at any depth, all rows of a function: each byte holds eight rows, or all of them where there are fewer
   pub draw-bytes : (d : ℕ) (f : ℕ → A)

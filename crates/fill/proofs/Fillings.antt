@@ -2,13 +2,11 @@
 -- Assumes nothing.
 use mathlib.Core.Path.{_≡_, refl, sym, ap, ap₂, _∙_, subst}
 use mathlib.Core.Bool.{true}
-use mathlib.Core.List.{List, [], _∷_, _++_, map, sum}
+use mathlib.Core.List.{List, [], _∷_, _++_, map, sum, map-map}
 use mathlib.Core.Logic.{inl}
 use Prim.Native.Nat.{ℕ, _+_, _*_, _^_, _≤_}
-use native.Mathlib.Nat.{mul-le-mul}
 use native.Mathlib.Omega.{arith}
 use lib.Dec.{T}
-use lib.Pow.{pow-mono}
 use lib.ListN.{length, take, drop, length-append, length-map}
 use Rattle.diagram.specs.Lists.{upTo}
 use Rattle.diagram.specs.Tree.{Tree}
@@ -21,8 +19,11 @@ use Rattle.diagram.proofs.Fill.{links-length, fill-length}
 use Rattle.diagram.proofs.Traced.{traced-counts}
 use Rattle.diagram.proofs.Count.{count-sum, counts-length}
 use Rattle.diagram.proofs.Bound.{most}
+use Rattle.diagram.proofs.UpTo.{map-upTo-cong}
+use Rattle.diagram.proofs.Levels.{linksOf}
 use Rattle.table.specs.Stream.{tableOf}
 use Rattle.table.specs.Calls.{over}
+use Rattle.table.proofs.Answers.{stream-small}
 use Rattle.fill.specs.Pack.{width, encode}
 use Rattle.fill.specs.Parts.{LevelParts, levelParts, flat}
 use Rattle.fill.specs.Work.{linksAt, linkBytes, joined, zeroWork, traceWork}
@@ -32,7 +33,6 @@ use Rattle.fill.specs.Gather.{rowOf, placesOf, gatheredPart}
 use Rattle.fill.specs.Calls.{tenOf, entryCounts}
 use Rattle.fill.specs.Descent.{linksBelow, countsBelow, roomy, holding, linksUpTo}
 use Rattle.fill.specs.Counts.{countsAt, linksEnd}
-use Rattle.fill.proofs.UpTo.{map-upTo-cong}
 use Rattle.fill.proofs.Gathered.{gathered-encode}
 use Rattle.fill.proofs.LevelBytes.{levelPart, level-bytes}
 use Rattle.fill.proofs.PackLaws.{encode-length}
@@ -43,11 +43,8 @@ use Rattle.fill.proofs.Tens.{ten-take, sum-ten}
 use Rattle.fill.proofs.Below.{room-first}
 use Rattle.fill.proofs.CellLinks.{counts-below, end-below}
 use Rattle.fill.proofs.FilledBytes.{entriesOf, partsOf, trace-bytes, counts-bytes, entry-levels}
-use Rattle.fill.proofs.RoomBelow.{Rows, roomy-filled, links-few}
-
-pub map-map : {A B C : Type 0} (f : B → C) (g : A → B) (xs : List A) → map f (map g xs) ≡ map (λ x. f (g x)) xs
-map-map f g [] = refl
-map-map f g (x ∷ xs) = ap (λ (l : List _). f (g x) ∷ l) (map-map f g xs)
+use Rattle.fill.proofs.RoomBelow.{Rows, roomy-filled}
+use Rattle.fill.proofs.LinksRoom.{links-room}
 
 -- the cells of each level, by the links below level 0
 counts-traced : (n : ℕ) (fs : List (Tree Row n)) → counts true n (fill true n fs) ≡ map differing (linksBelow n (partsOf fs))
@@ -66,14 +63,10 @@ long-encode : {d : ℕ} (ts : List (Tree Row d)) → Long (width d + width d) (m
 long-encode [] = tt
 long-encode (t ∷ ts) = (encode-length t, long-encode ts)
 
--- the outputs' links
-abbrev linksOf : {n : ℕ} → List (Tree Row n) → List Link
-linksOf fs = level true [] fs .links
-
 -- level 0, in a work buffer that was zero
 pub first-is : {n : ℕ} (fs : List (Tree Row n)) (work z : List ℕ) (xs : List (List ℕ)) (r : ℕ) (m : List ℕ) → xs ≡ map encode fs → z ≡ zeroWork work
     → r ≡ length (levelParts (width n) [] xs .parts) → m ≡ written (levelParts (width n) [] xs) 0 8192 z
-    → (r ≡ length (entriesOf fs)) × (m ≡ holding 0 (partsOf fs) (linkBytes (linksOf fs)) work)
+    → (r ≡ length (entriesOf fs)) × (m ≡ holding 0 (partsOf fs) (linkBytes (linksOf true fs)) work)
 unfolding holding linksAt written
 first-is {n} fs work z xs r m p q a b =
     let e : levelParts (width n) [] xs ≡ levelPart (level true [] fs) = ap (levelParts (width n) []) p ∙ level-bytes [] fs in (
@@ -83,7 +76,7 @@ first-is {n} fs work z xs r m p q a b =
 
 module _ {n : ℕ} (fs : List (Tree Row n)) (small : n ≤ 10) (few : length fs ≤ 16) where
   rows : Rows fs
-  rows = mul-le-mul {n₂ = 16} {m₂ = 1024} few (pow-mono {j = 10} small)
+  rows = stream-small n (length fs) small few
 
   roomy-parts : T (roomy n (partsOf fs))
   roomy-parts = roomy-filled n fs rows
@@ -91,49 +84,52 @@ module _ {n : ℕ} (fs : List (Tree Row n)) (small : n ≤ 10) (few : length fs 
   fit : Fit (width n + width n) (partsOf fs)
   fit = (long-encode (entriesOf fs), room-first n (partsOf fs) roomy-parts)
 
-  links-size : length (linkBytes (linksOf fs)) ≡ 2 * length fs
-  links-size = length-links (linksOf fs) ∙ ap (λ (k : ℕ). 2 * k) (links-length true [] fs)
+  links-size : length (linkBytes (linksOf true fs)) ≡ 2 * length fs
+  links-size = length-links (linksOf true fs) ∙ ap (λ (k : ℕ). 2 * k) (links-length true [] fs)
 
-  trace-links : linkBytes (joined (trace true n fs)) ≡ linkBytes (linksOf fs) ++ linkBytes (joined (linksBelow n (partsOf fs)))
+  trace-links : linkBytes (joined (trace true n fs)) ≡ linkBytes (linksOf true fs) ++ linkBytes (joined (linksBelow n (partsOf fs)))
   trace-links =
-      ap (λ (y : List (List Link)). linkBytes (joined y)) (trace-bytes n fs) ∙ links-append (linksOf fs) (joined (linksBelow n (partsOf fs)))
+      ap (λ (y : List (List Link)). linkBytes (joined y)) (trace-bytes n fs) ∙ links-append (linksOf true fs) (joined (linksBelow n (partsOf fs)))
 
   pub trace-size : 8192 + length (linkBytes (joined (trace true n fs))) ≤ 32768
-  trace-size =
-      let x = linkBytes (linksOf fs) in
+  trace-size = omega (arith, length-links (joined (trace true n fs)), links-room n fs small few)
+
+  -- below level 0 there are no more
+  links-few : length (joined (linksBelow n (partsOf fs))) ≤ 4350
+  links-few =
       let y = joined (linksBelow n (partsOf fs)) in
-      omega (arith, ap length trace-links, length-append x (linkBytes y), links-size, length-links y, links-few n fs small rows)
+      omega (arith, ap (λ (l : List (List Link)). length (joined l)) (trace-bytes n fs), length-append (linksOf true fs) y, links-room n fs small few)
 
   -- after level 0 there are so many entries, the next link goes to `links`, and m is the work buffer
   module _ (work : List ℕ) (big : 32768 ≤ length work) (k links : ℕ) (m : List ℕ) (many : k ≡ length (entriesOf fs))
-      (ends : links ≡ 8192 + 2 * length fs) (is : m ≡ holding 0 (partsOf fs) (linkBytes (linksOf fs)) work) where
-    ends′ : links ≡ 8192 + length (linkBytes (linksOf fs))
+      (ends : links ≡ 8192 + 2 * length fs) (is : m ≡ holding 0 (partsOf fs) (linkBytes (linksOf true fs)) work) where
+    ends′ : links ≡ 8192 + length (linkBytes (linksOf true fs))
     ends′ = omega (arith, links-size)
 
     parts-read : partsAt n k 0 m ≡ partsOf fs
     parts-read =
         ap₂ (λ (j : ℕ) (y : List ℕ). partsAt n j 0 y) (many ∙ sym (length-map (entriesOf fs) encode)) is
-        ∙ held-parts work big (width n + width n) 0 (partsOf fs) (linkBytes (linksOf fs)) fit (inl refl)
+        ∙ held-parts work big (width n + width n) 0 (partsOf fs) (linkBytes (linksOf true fs)) fit (inl refl)
 
-    links-read : linksUpTo links m ≡ linkBytes (linksOf fs)
-    links-read = ap (linksUpTo links) is ∙ held-bytes work big (width n + width n) 0 (partsOf fs) (linkBytes (linksOf fs)) fit (inl refl) links ends′
+    links-read : linksUpTo links m ≡ linkBytes (linksOf true fs)
+    links-read = ap (linksUpTo links) is ∙ held-bytes work big (width n + width n) 0 (partsOf fs) (linkBytes (linksOf true fs)) fit (inl refl) links ends′
 
     past : zeroWork m ≡ zeroWork work
     past =
         ap zeroWork is
-        ∙ held-past work big (width n + width n) 0 (partsOf fs) (linkBytes (linksOf fs)) fit (inl refl) (omega (arith, links-size))
+        ∙ held-past work big (width n + width n) 0 (partsOf fs) (linkBytes (linksOf true fs)) fit (inl refl) (omega (arith, links-size))
 
     -- what the way down asks
     pub descend-asks : (m ≡ holding 0 (partsAt n k 0 m) (linksUpTo links m) m)
         × (T (roomy n (partsAt n k 0 m)) × (links + 2 * length (joined (linksBelow n (partsAt n k 0 m))) ≤ 32768))
     descend-asks = (
       is
-          ∙ sym (holding-past 0 (partsOf fs) (linkBytes (linksOf fs)) m work past)
+          ∙ sym (holding-past 0 (partsOf fs) (linkBytes (linksOf true fs)) m work past)
           ∙ sym (ap₂ (λ (p : List (List ℕ)) (b : List ℕ). holding 0 p b m) parts-read links-read),
       (
         subst (λ (p : List (List ℕ)). T (roomy n p)) (sym parts-read) roomy-parts,
         subst (λ (p : List (List ℕ)). links + 2 * length (joined (linksBelow n p)) ≤ 32768) (sym parts-read)
-            (omega (arith, links-few n fs small rows)),
+            (omega (arith, links-few)),
       ),
     )
 
@@ -143,11 +139,11 @@ module _ {n : ℕ} (fs : List (Tree Row n)) (small : n ≤ 10) (few : length fs 
       pub entries-filled : entries ≡ tenOf (entryCounts n fs)
       entries-filled = entries-are ∙ ap (λ (p : List (List ℕ)). tenOf (countsBelow n p)) parts-read ∙ ap tenOf (sym (counts-bytes n fs))
 
-      left-is : m′ ≡ holding 0 [] (linkBytes (linksOf fs) ++ linkBytes (joined (linksBelow n (partsOf fs)))) work
+      left-is : m′ ≡ holding 0 [] (linkBytes (linksOf true fs) ++ linkBytes (joined (linksBelow n (partsOf fs)))) work
       left-is =
           left
           ∙ ap₂ (λ (p : List (List ℕ)) (b : List ℕ). holding 0 [] (b ++ linkBytes (joined (linksBelow n p))) m) parts-read links-read
-          ∙ holding-past 0 [] (linkBytes (linksOf fs) ++ linkBytes (joined (linksBelow n (partsOf fs)))) m work past
+          ∙ holding-past 0 [] (linkBytes (linksOf true fs) ++ linkBytes (joined (linksBelow n (partsOf fs)))) m work past
 
       pub left-filled : m′ ≡ traceWork (trace true n fs) work
       left-filled =
@@ -160,12 +156,12 @@ module _ {n : ℕ} (fs : List (Tree Row n)) (small : n ≤ 10) (few : length fs 
       pub counts-ask : linksEnd links (take n entries) ≤ 32768
       counts-ask =
           subst (λ (ks : List ℕ). linksEnd links ks ≤ 32768) (sym levels-taken)
-          (omega (arith, end-below n links (partsOf fs), links-few n fs small rows))
+          (omega (arith, end-below n links (partsOf fs), links-few))
 
       pub counts-filled : (cs : List ℕ) → cs ≡ tenOf (countsAt m′ links (take n entries)) → cs ≡ tenOf (counts true n (fill true n fs))
       counts-filled cs e =
           let (rest, behind) =
-          held-behind work big 2 0 [] (linkBytes (linksOf fs)) (tt, omega arith) (inl refl)
+          held-behind work big 2 0 [] (linkBytes (linksOf true fs)) (tt, omega arith) (inl refl)
           (linkBytes (joined (linksBelow n (partsOf fs)))) links ends′ in
           e
           ∙ ap tenOf

@@ -2,27 +2,28 @@
 -- Assumes nothing.
 use mathlib.Core.Path.{_≡_, refl, sym, ap, ap₂, _∙_}
 use mathlib.Core.Bool.{Bool, true, false, cond}
-use mathlib.Core.List.{List, _++_, map}
+use mathlib.Core.List.{List, _++_}
 use Prim.Native.Nat.{ℕ, zero, suc, _+_, _*_, _%_, _^_, _≤_, _<_, min}
 use native.Mathlib.Numerals.{add-one}
 use native.Mathlib.Omega.{arith}
 use borrow.Author.Tests.{lt-ltb}
 use lib.Bits.{bitOr, or-shifted-r}
 use lib.Dec.{T, eqb, ltb, lit<}
-use lib.ListN.{getD, take, drop, List·getD-append}
+use lib.ListN.{getD, take}
 use lib.Pow.{shl-exact}
-use Rattle.diagram.specs.Lists.{digit, index, upTo, bit}
+use Rattle.diagram.specs.Lists.{digit, index, bit}
 use Rattle.diagram.specs.Order.{isOrder, behind}
 use Rattle.diagram.specs.Tree.{draw}
 use Rattle.diagram.specs.Fill.{Row}
 use Rattle.diagram.specs.Table.{reordered}
 use Rattle.diagram.proofs.Bits.{number-cong}
 use Rattle.diagram.proofs.Order.{index-below}
+use Rattle.diagram.proofs.UpTo.{map-upTo-cong, getD-map-upTo}
 use Rattle.table.specs.Stream.{streamBit, tableOf}
 use Rattle.table.specs.Calls.{over}
+use Rattle.table.proofs.Over.{getD-over}
 use Rattle.fill.specs.Pack.{width, pack, encode}
 use Rattle.fill.specs.Gather.{gathered, placesOf, rowOf, gatheredPlane, gatheredPart}
-use Rattle.fill.proofs.UpTo.{map-upTo-cong, length-map-upTo, getD-upTo}
 use Rattle.fill.proofs.DrawBytes.{gathered-cong, draw-bytes}
 use Rattle.fill.proofs.Shifts.{byte-within}
 
@@ -48,17 +49,12 @@ module _ (k : ℕ) (f : ℕ → Bool) (byte : ℕ) (e : byte ≡ gathered k f) w
       let q : gathered (k + 1) f ≡ gathered k f + 0 * 2 ^ k = ap (λ j. gathered j f) (add-one k) ∙ ap (λ b. gathered k f + digit b * 2 ^ k) t in
       omega arith
 
--- a list that is written from the front has there what was written
-pub over-at : (f : ℕ → ℕ) (k : ℕ) (l : List ℕ) (s : ℕ) → s < k → getD (over f k l) s 0 ≡ f s
-over-at f k l s h =
-    List·getD-append (map f (upTo k)) (drop k l) 0 s (rw (length-map-upTo f k) h) ∙ getD-upTo f k s 0 h
-
 module _ (n : ℕ) (order : List ℕ) (fits : n ≤ 10) where
   pub places-index : (v : ℕ) → v < n → getD (placesOf n order) v 0 ≡ index eqb v (take n order)
   unfolding placesOf
   places-index v h =
       let e : ltb v n ≡ true = lt-ltb v n h in
-      getD-upTo (λ w. cond (ltb w n) (index eqb w (take n order)) 0) 10 v 0 (omega arith)
+      getD-map-upTo (λ w. cond (ltb w n) (index eqb w (take n order)) 0) 10 v 0 (omega arith)
       ∙ ap (λ b. cond b (index eqb v (take n order)) 0) e
 
   pub places-below : T (isOrder n (take n order)) → (v : ℕ) → v < n → getD (placesOf n order) v 0 < n
@@ -80,7 +76,7 @@ module _ (n : ℕ) (order : List ℕ) (fits : n ≤ 10) where
       (λ i. gathered k (λ b. p (row (behind n (take n order) (8 * i + b)))))
       (λ i h. gathered-cong k _ (λ b. p (row (behind n (take n order) (8 * i + b))))
       (λ b q. let r : 8 * i + b < 2 ^ n = omega (arith, byte-within n i h) in
-      ap (λ x. streamBit plane (base + x)) (over-at f (2 ^ n) l (8 * i + b) r ∙ row-behind (8 * i + b))
+      ap (λ x. streamBit plane (base + x)) (getD-over f (2 ^ n) l (8 * i + b) 0 r ∙ row-behind (8 * i + b))
       ∙ e (behind n (take n order) (8 * i + b))))
       ∙ sym (draw-bytes p n (λ s. row (behind n (take n order) s)))
 

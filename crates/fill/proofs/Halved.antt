@@ -1,52 +1,29 @@
 -- Laws of widths and of the halves of parts.
 -- Assumes nothing.
-use mathlib.Core.Path.{_≡_, refl, sym, ap, ap₂, _∙_, subst}
+use mathlib.Core.Path.{_≡_, refl, sym, ap, ap₂, _∙_}
 use mathlib.Core.Bool.{Bool, true, false, cond}
 use mathlib.Core.List.{List, [], _∷_, _++_}
 use Prim.Native.Nat.{ℕ, zero, suc, _+_, _*_, _-_, _/_, _%_, _^_, _≤_, _<_}
-use native.Mathlib.Nat.{one-mul, zero-mul, div-one, le-of-suc-le-suc, not-suc-le-zero, le-trans, le-of-eq, mod-le}
+use native.Mathlib.Nat.{one-mul, zero-mul, div-one, le-of-suc-le-suc, not-suc-le-zero}
 use native.Mathlib.Omega.{arith}
 use borrow.Author.Tests.{lt-ltb, le-ltb, ltb-true, ltb-false}
 use lib.Dec.{ltb, lit<}
-use lib.Pow.{shl-exact, pow-mono}
 use lib.ListN.{length, getD, set, take, drop, length-drop, length-append}
 use lib.Seq.{take-take, drop-drop, length-take-le, getD-take, getD-drop}
 use Rattle.diagram.specs.Lists.{digit}
 use Rattle.diagram.proofs.Bools.{split}
+use Rattle.diagram.proofs.Bits.{digit-part-le}
 use Rattle.fill.specs.Pack.{width}
 use Rattle.fill.specs.Parts.{halfPart}
 use Rattle.fill.specs.Splice.{splice}
 use Rattle.fill.proofs.Spliced.{drop-take, splice-two}
-
--- widths: one byte up to three variables, then twice as many for each
-
-pub width-one : (d : ℕ) → d < 3 → width (suc d) ≡ 1
-width-one d h = let e = lt-ltb d 3 h in rw e
-
-pub width-small : (d : ℕ) → d ≤ 3 → width d ≡ 1
-width-small zero h = refl
-width-small (suc d) h = width-one d h
-
-pub width-twice : (d : ℕ) → 3 ≤ d → width (suc d) ≡ width d + width d
-width-twice d h = let e = le-ltb d 3 h in rw e
-
-width-power : (k : ℕ) → width (suc (suc (suc k))) ≡ 2 ^ k
-width-power zero = refl
-width-power (suc k) =
-    let t = width-twice (suc (suc (suc k))) (omega arith) in
-    let w = width-power k in
-    t ∙ omega arith
-
-pub width-shift : (d : ℕ) → 3 ≤ d → d ≤ 10 → 1 * 2 ^ (d - 3) % 2 ^ 64 ≡ width d
-width-shift d h k =
-    let e : d ≡ suc (suc (suc (d - 3))) = omega arith in
-    shl-exact 1 (d - 3) 64 (lit< tt) (omega arith) ∙ one-mul (2 ^ (d - 3)) ∙ sym (width-power (d - 3)) ∙ ap width (sym e)
+use Rattle.fill.proofs.PackLaws.{width-small, width-suc}
 
 width-pos-step : (b : Bool) (n : ℕ) → 0 < n → 0 < cond b 1 (n + n)
 width-pos-step true n h = lit< tt
 width-pos-step false n h = omega arith
 
--- a width is at least one byte, and at most 128 up to ten variables
+-- a width is at least one byte
 pub width-pos : (d : ℕ) → 0 < width d
 width-pos zero = lit< tt
 width-pos (suc d) = width-pos-step (ltb d 3) (width d) (width-pos d)
@@ -89,10 +66,6 @@ bits-taken b d part l x y h r p q =
 
 -- bytes
 
-digit-le : (b : Bool) (n : ℕ) → digit b * n ≤ n
-digit-le true n = omega arith
-digit-le false n = omega arith
-
 -- w bytes of half b, of values and of care
 half-bytes : (b : Bool) (d : ℕ) (part : List ℕ) → 3 ≤ d
     → halfPart b d part
@@ -102,12 +75,12 @@ half-bytes b d part h =
     let e = le-ltb d 3 h in
     let w = width d in
     let n = digit b * w in
-    let m : w + w ≡ n + (w + w - n) = omega (arith, digit-le b w) in
+    let m : w + w ≡ n + (w + w - n) = omega (arith, digit-part-le b w) in
     rw e
     (ap₂ _++_
     (ap (λ (y : ℕ). take w (drop n (take y part))) m
     ∙ ap (take w) (drop-take n (w + w - n) part)
-    ∙ take-take w (w + w - n) (drop n part) (omega (arith, digit-le b w)))
+    ∙ take-take w (w + w - n) (drop n part) (omega (arith, digit-part-le b w)))
     (ap (take w) (drop-drop n (w + w) part)))
 
 taken-length : (w n : ℕ) (part : List ℕ) → n + w ≤ length part → length (take w (drop n part)) ≡ w
@@ -120,8 +93,8 @@ pub bytes-taken : (b : Bool) (d : ℕ) (part l x y : List ℕ) → 3 ≤ d → l
     → splice (splice l 0 x) (width d) y ≡ halfPart b d part ++ drop (width d + width d) l
 bytes-taken b d part l x y h r p q =
     let w = width d in
-    let t = width-twice d h in
-    let i = digit-le b w in
+    let t = width-suc d h in
+    let i = digit-part-le b w in
     let m : length x ≡ w = ap length p ∙ taken-length w (digit b * w) part (omega arith) in
     let n : length y ≡ w = ap length q ∙ taken-length w (w + w + digit b * w) part (omega arith) in
     ap (λ (k : ℕ). splice (splice l 0 x) k y) (sym m)
@@ -147,7 +120,7 @@ bytes-copied b d w r v part l m m′ h long a p q e e′ =
 
 pub bytes-within : (b : Bool) (d w r n : ℕ) → 3 ≤ d → n ≡ width (suc d) + width (suc d) → w ≡ width d → r ≡ digit b * w
     → w + w + r + w ≤ n
-bytes-within b d w r n h e a p = omega (arith, width-twice d h, digit-le b w)
+bytes-within b d w r n h e a p = omega (arith, width-suc d h, digit-part-le b w)
 
 -- a half has the width of its rows
 pub length-half : (b : Bool) (d : ℕ) (part : List ℕ) → length part ≡ width (suc d) + width (suc d)
@@ -157,16 +130,8 @@ length-half b d part h =
     split (ltb d 3)
     (λ e. let s = ltb-true d 3 e in ap length (half-bits b d part s) ∙ omega (arith, width-small d (omega arith)))
     (λ e. let s = ltb-false d 3 e in
-    let t = width-twice d s in
-    let i = digit-le b w in
+    let t = width-suc d s in
+    let i = digit-part-le b w in
     ap length (half-bytes b d part s)
     ∙ length-append (take w (drop (digit b * w) part)) (take w (drop (w + w + digit b * w) part))
     ∙ ap₂ _+_ (taken-length w (digit b * w) part (omega arith)) (taken-length w (w + w + digit b * w) part (omega arith)))
-
--- up to nine variables
-pub width-most : (d : ℕ) → d < 10 → width d ≤ 128
-width-most d h =
-    split (ltb d 3) (λ e. let s = ltb-true d 3 e in omega (arith, width-small d (omega arith)))
-    (λ e. let s = ltb-false d 3 e in
-    subst (λ (n : ℕ). n ≤ 128) (width-shift d s (omega arith))
-    (le-trans (mod-le (1 * 2 ^ (d - 3)) (2 ^ 64)) (le-trans (le-of-eq (one-mul (2 ^ (d - 3)))) (pow-mono {i = d - 3} {j = 7} (omega arith)))))

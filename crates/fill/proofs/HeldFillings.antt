@@ -11,6 +11,7 @@ use lib.ListN.{length, take}
 use Rattle.diagram.specs.Fill.{level, trace}
 use Rattle.diagram.specs.Network.{counts}
 use Rattle.diagram.specs.Table.{reordered, filled, cost}
+use Rattle.diagram.proofs.UpTo.{length-map-upTo}
 use Rattle.table.specs.declared.Answer.the-variants.{Done}
 use Rattle.table.specs.declared.State.{State}
 use Rattle.table.specs.State.{orderOf, stageOf, isNothing}
@@ -21,7 +22,6 @@ use Rattle.fill.specs.Calls.{heldTable, drawnOutputs, tenOf}
 use Rattle.fill.specs.Descent.{linksBelow, countsBelow, roomy, holding, linksUpTo}
 use Rattle.fill.specs.Counts.{countsAt, linksEnd}
 use Rattle.fill.specs.Filling.{firstWork, filledWork, filledLevels}
-use Rattle.fill.proofs.UpTo.{length-map-upTo}
 use Rattle.fill.proofs.Holding.{held-past, held-trace}
 use Rattle.fill.proofs.Fillings.{trace-size, descend-asks, entries-filled, left-filled, counts-ask, counts-filled, cells-filled}
 

@@ -59,7 +59,7 @@ zero-start n work m e q =
     ∙ ap (λ (k : ℕ). replicate k 0 ++ drop k work) p
 
 module _ (work : List ℕ) (big : 32768 ≤ length work) where
-  length-zero : length (zeroWork work) ≡ length work
+  pub length-zero : length (zeroWork work) ≡ length work
   unfolding zeroWork
   length-zero =
       length-append (replicate workSize 0) (drop workSize work)

@@ -6,12 +6,12 @@ pub mod CallLaws
 pub mod Cares
 pub mod CellLinks
 pub mod Chunked
-pub mod Counted
 pub mod Counting
 pub mod Descended
 pub mod DrawBytes
 pub mod FilledBytes
 pub mod Fillings
+pub mod FirstBits
 pub mod Gathered
 pub mod HalfBytes
 pub mod Halved
@@ -19,13 +19,13 @@ pub mod HeldFillings
 pub mod Holding
 pub mod LevelBytes
 pub mod Levelled
+pub mod LinksRoom
 pub mod Long
 pub mod Masked
 pub mod Merged
 pub mod OutputsPlaced
 pub mod Overwritten
 pub mod PackLaws
-pub mod Places
 pub mod Planes
 pub mod Room
 pub mod RoomBelow
@@ -34,7 +34,6 @@ pub mod Spliced
 pub mod Tens
 pub mod Tried
 pub mod Turned
-pub mod UpTo
 pub mod Windows
 pub mod Written
 pub mod Zeros

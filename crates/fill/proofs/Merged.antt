@@ -9,10 +9,10 @@ use lib.Bits.{bitAnd, bitOr, bitXor, xor-zero-r}
 use lib.ListN.{length, getD, set, drop, drop-of-length-le, length-append}
 use lib.Seq.{take-at}
 use Rattle.diagram.specs.Lists.{upTo}
+use Rattle.diagram.proofs.UpTo.{map-upTo-more, length-map-upTo}
 use Rattle.fill.specs.Bytes.{mergeByte}
 use Rattle.fill.specs.Parts.{mergePart, valueByte, careByte}
 use Rattle.fill.specs.Splice.{splice}
-use Rattle.fill.proofs.Counted.{map-more, length-map-upTo}
 use Rattle.fill.proofs.Spliced.{length-splice, splice-none, getD-before, getD-behind, set-end, set-before}
 
 -- without inversion the exclusive or with 0 falls away
@@ -74,13 +74,13 @@ module _ (i : Bool) (w : ℕ) (f g : List ℕ) where
         let front : set (valuesTo j) j (valueAt i w f g j) ≡ valuesTo (j + 1) =
         ap (λ (n : ℕ). set (valuesTo j) n (valueAt i w f g j)) (sym v)
         ∙ set-end g 0 vs (valueAt i w f g j) (omega arith)
-        ∙ ap (splice g 0) (sym (map-more (valueAt i w f g) j)) in
+        ∙ ap (splice g 0) (sym (map-upTo-more (valueAt i w f g) j)) in
         ap (λ (y : List ℕ). set y (w + j) (careAt w f g j))
         (set-before (valuesTo j) w cs j (valueAt i w f g j) h (omega (arith, length-values j (omega arith)))
         ∙ ap (λ (y : List ℕ). splice y w cs) front)
         ∙ ap (λ (n : ℕ). set (splice (valuesTo (j + 1)) w cs) n (careAt w f g j)) (sym c)
         ∙ set-end (valuesTo (j + 1)) w cs (careAt w f g j) (omega (arith, length-values (j + 1) (omega arith)))
-        ∙ ap (splice (valuesTo (j + 1)) w) (sym (map-more (careAt w f g) j))
+        ∙ ap (splice (valuesTo (j + 1)) w) (sym (map-upTo-more (careAt w f g) j))
 
     -- one byte more, as a turn of the loop takes m to m′
     pub merged-more : (j : ℕ) (m m′ : List ℕ) → j < w → m ≡ merged j

@@ -1,7 +1,7 @@
 -- The outputs placed one after the other at level 0, in a work buffer whose first links are theirs.
 -- Assumes nothing.
 use mathlib.Core.Path.{_≡_, refl, sym, ap, ap₂, _∙_, subst}
-use mathlib.Core.List.{List, [], _∷_, _++_, map}
+use mathlib.Core.List.{List, [], _∷_, _++_, map, map-append}
 use Prim.Native.Nat.{ℕ, _+_, _*_, _-_, _^_, _≤_, _<_}
 use native.Mathlib.Nat.{mul-le-mul}
 use native.Mathlib.Numerals.{add-one}
@@ -9,11 +9,11 @@ use native.Mathlib.Omega.{arith}
 use lib.ListN.{length, take, drop, length-append}
 use lib.Seq.{take-at}
 use Rattle.diagram.specs.Lists.{upTo}
+use Rattle.diagram.proofs.UpTo.{length-map-upTo}
 use Rattle.fill.specs.Pack.{width}
 use Rattle.fill.specs.Parts.{levelParts}
 use Rattle.fill.specs.Level.{partsAt, written}
 use Rattle.fill.specs.Gather.{gatheredPlane, gatheredPart}
-use Rattle.fill.proofs.UpTo.{map-append, length-map-upTo}
 use Rattle.fill.proofs.Shifts.{width-room}
 use Rattle.fill.proofs.Long.{Long, level-grown}
 use Rattle.fill.proofs.Written.{written-none, level-step}

@@ -1,7 +1,7 @@
 -- A list that is written one element at a time, from the front or from a place on.
 -- Assumes nothing.
-use mathlib.Core.Path.{_≡_, refl, sym, ap, ap₂, _∙_}
-use mathlib.Core.List.{List, [], _∷_, _++_, map, append-assoc}
+use mathlib.Core.Path.{_≡_, sym, ap, ap₂, _∙_}
+use mathlib.Core.List.{List, [], _∷_, _++_, map, append-assoc, map-append}
 use Prim.Native.Nat.{ℕ, suc, _+_, _<_}
 use native.Mathlib.Nat.{zero-add, add-zero}
 use native.Mathlib.Numerals.{add-one}
@@ -9,8 +9,7 @@ use native.Mathlib.Omega.{arith}
 use lib.ListN.{length, getD, take, drop, set, length-append, take-append-drop}
 use lib.Seq.{length-take-le, drop-cons, set-at, take-at, drop-append-add, drop-drop}
 use Rattle.diagram.specs.Lists.{upTo}
-use Rattle.table.specs.Calls.{over}
-use Rattle.fill.proofs.UpTo.{map-append, length-map-upTo}
+use Rattle.diagram.proofs.UpTo.{length-map-upTo}
 
 -- p, then f 0 to f (k - 1), then what l has from there on, one more written
 written-more : (p : List ℕ) (m : ℕ) → length p ≡ m → (f : ℕ → ℕ) (k : ℕ) (l : List ℕ) → m + k < length l
@@ -27,12 +26,6 @@ written-more p m e f k l h =
     (sym (append-assoc (map f (upTo k)) (f k ∷ []) (drop (suc (m + k)) l))
     ∙ ap (λ (r : List ℕ). r ++ drop (suc (m + k)) l) (sym (map-append f (upTo k) (k ∷ [])) ∙ ap (λ j. map f (upTo j)) (sym (add-one k)))
     ∙ ap (λ j. map f (upTo (k + 1)) ++ drop j l) (sym z))
-
--- from the front
-pub over-more : (f : ℕ → ℕ) (k x : ℕ) (l d : List ℕ) → k < length l → d ≡ over f k l → x ≡ f k → set d k x ≡ over f (k + 1) l
-over-more f k x l d h c q =
-    let e : 0 + k < length l = omega arith in
-    ap₂ (λ (r : List ℕ) (y : ℕ). set r k y) c q ∙ rw (zero-add k, zero-add (k + 1)) at (written-more [] 0 refl f k l e)
 
 -- from place m on
 module _ (f : ℕ → ℕ) (m : ℕ) (l : List ℕ) where

@@ -12,10 +12,11 @@ use Rattle.diagram.specs.Lists.{all, upTo}
 use Rattle.diagram.specs.Tree.{Tree, leaf, node}
 use Rattle.diagram.specs.Fill.{Row}
 use Rattle.diagram.proofs.Bools.{split, to-T, to-not}
+use Rattle.diagram.proofs.UpTo.{map-upTo-cong, map-upTo-add}
+use Rattle.diagram.proofs.Lists.{all-append-and}
 use Rattle.fill.specs.Pack.{width, num, pack, encode}
 use Rattle.fill.specs.Parts.{valueByte, careByte}
 use Rattle.fill.proofs.PackLaws.{width-small, width-suc, pack-small, pack-node, pack-length, value-byte, care-byte}
-use Rattle.fill.proofs.UpTo.{map-upTo-cong, map-upTo-add, all-append-and}
 
 -- byte j of a longer plane is a byte of its low half or of its high half
 

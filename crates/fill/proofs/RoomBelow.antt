@@ -1,30 +1,25 @@
--- The room that a filling takes: where candidates of d variables have at most 16,384 rows in all, every level's entries fit a region, and there
--- are few links in all. A level has at most one entry a candidate, and up to three variables at most 127.
+-- The room that a filling takes: where candidates of d variables have at most 16,384 rows in all, every level's entries fit a region. A level
+-- has at most one entry a candidate, and up to three variables at most 127.
 -- Assumes nothing.
 use mathlib.Core.Path.{_≡_, sym, ap, subst}
-use mathlib.Core.Bool.{true, cond, _&&_}
+use mathlib.Core.Bool.{true, _&&_}
 use mathlib.Core.List.{List}
-use Prim.Native.Nat.{ℕ, zero, suc, _+_, _*_, _-_, _/_, _^_, _≤_, suc-le-suc}
-use native.Mathlib.Nat.{le-trans, mul-le-mul-right, le-div-iff-mul-le}
+use Prim.Native.Nat.{ℕ, zero, suc, _+_, _*_, _-_, _^_, _≤_}
+use native.Mathlib.Nat.{le-trans, mul-le-mul-right}
 use native.Mathlib.Omega.{arith}
 use borrow.Author.Tests.{leb-true, leb-false}
-use lib.Dec.{T, eqb, leb, leb→le, le→leb}
+use lib.Dec.{T, leb, le→leb}
 use lib.ListN.{length, length-map}
-use lib.Pow.{pow-mono, pow-pos}
-use Rattle.diagram.specs.Lists.{all, upTo}
+use lib.Pow.{pow-mono}
 use Rattle.diagram.specs.Tree.{Tree, halves}
-use Rattle.diagram.specs.Fill.{Row, level}
+use Rattle.diagram.specs.Fill.{Row}
 use Rattle.diagram.proofs.Bools.{split, and-T}
-use Rattle.diagram.proofs.Lists.{eqb-equality, all-has}
 use Rattle.diagram.proofs.Tree.{length-halves}
-use Rattle.diagram.proofs.Numbers.{has-upTo}
 use Rattle.fill.specs.Pack.{width, encode}
 use Rattle.fill.specs.Parts.{LevelParts}
-use Rattle.fill.specs.Work.{joined}
-use Rattle.fill.specs.Descent.{levelBelow, linksBelow, roomy}
+use Rattle.fill.specs.Descent.{levelBelow, roomy}
 use Rattle.fill.proofs.PackLaws.{width-small, width-suc, width-rows}
 use Rattle.fill.proofs.Room.{entries-candidates, entries-most, entries-none}
-use Rattle.fill.proofs.Below.{links-length}
 use Rattle.fill.proofs.FilledBytes.{entriesOf, partsOf, below-bytes}
 
 -- at most so many rows
@@ -81,36 +76,3 @@ roomy-filled (suc d) fs h =
     let c = roomy d (levelBelow d (partsOf fs) .parts) in
     and-T a (b && c) (le→leb (k * (width (suc d) + width (suc d))) 4096 (r .0))
     (and-T b c (le→leb ((k + k) * (width d + width d)) 4096 (r .1)) more)
-
--- the most entries of a level of d variables, and the most links below such a level
-
-abbrev most : ℕ → ℕ
-most d = cond (leb d 3) 127 (16384 / 2 ^ d)
-
-abbrev mostLinks : ℕ → ℕ
-mostLinks zero = 0
-mostLinks (suc d) = 2 * most (suc d) + mostLinks d
-
-entries-few : (d : ℕ) (fs : List (Tree Row (suc d))) → Rows fs → length (entriesOf fs) ≤ most (suc d)
-entries-few d fs h =
-    split (leb (suc d) 3) (λ t. rw t (few-entries d fs (leb-true (suc d) 3 t)))
-    (λ t. rw t (le-div-iff-mul-le (pow-pos (suc d)) .1 (entry-rows fs h)))
-
-links-most : (d : ℕ) (fs : List (Tree Row d)) → Rows fs → length (joined (linksBelow d (partsOf fs))) ≤ mostLinks d
-unfolding linksBelow
-links-most zero fs h = omega arith
-links-most (suc d) fs h =
-    let e = links-length d (partsOf fs) in
-    let p = length-map (entriesOf fs) encode in
-    let q : length (joined (linksBelow d (levelBelow d (partsOf fs) .parts))) ≡ length (joined (linksBelow d (partsOf (halves (entriesOf fs))))) =
-    ap (λ (l : LevelParts). length (joined (linksBelow d (l .parts)))) (below-bytes (entriesOf fs)) in
-    omega (arith, entries-few d fs h, links-most d (halves (entriesOf fs)) (rows-next fs h))
-
--- computed for each number of variables up to ten
-few-hold : T (all (λ d. leb (mostLinks d) 4826) (upTo 11))
-few-hold = tt
-
-pub links-few : (d : ℕ) (fs : List (Tree Row d)) → d ≤ 10 → Rows fs → length (joined (linksBelow d (partsOf fs))) ≤ 4826
-links-few d fs small h =
-    le-trans (links-most d fs h)
-    (leb→le (mostLinks d) 4826 (all-has eqb eqb-equality (λ i. leb (mostLinks i) 4826) (upTo 11) few-hold d (has-upTo d 11 (suc-le-suc small))))

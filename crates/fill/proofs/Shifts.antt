@@ -1,43 +1,32 @@
 -- Bits, rows and bytes by shifts: a bit of a number, how many rows there are, how many bytes they take, and how many stand in a byte.
 -- Assumes nothing.
 use mathlib.Core.Path.{_≡_, sym, ap, _∙_}
-use mathlib.Core.Logic.{_≢_}
 use Prim.Native.Nat.{ℕ, suc, _+_, _*_, _-_, _/_, _%_, _^_, _≤_, _<_, min}
-use native.Mathlib.Nat.{one-mul, lt-of-lt-of-le, min-eq-left, min-eq-right, le-of-lt}
+use native.Mathlib.Nat.{lt-of-lt-of-le, min-eq-left, min-eq-right, le-of-lt}
 use native.Mathlib.Omega.{arith}
 use lib.Bits.{bitAnd, and-mask}
-use lib.Dec.{eqb, eqb→eq, lit<}
-use lib.Pow.{pow-add, pow-mono, shl-lt, shl-exact}
+use lib.Pow.{pow-add, pow-mono, shl-lt}
 use Rattle.diagram.specs.Lists.{digit, bit}
-use Rattle.diagram.proofs.Bools.{split, to-T}
-use Rattle.diagram.proofs.Numbers.{differ}
+use Rattle.diagram.proofs.Bits.{digit-eqb, one-shifted}
+use Rattle.table.proofs.Answers.{shifted-out}
 use Rattle.fill.specs.Pack.{width}
 use Rattle.fill.proofs.PackLaws.{width-small, width-rows}
 use Rattle.fill.proofs.Planes.{by-width}
 
--- 1 shifted up by at most ten is that power of two
-
 pub rows-room : (n : ℕ) → n ≤ 10 → 2 ^ n ≤ 1024
 rows-room n h = pow-mono {j = 10} h
 
-pub one-shifted : (n : ℕ) → n ≤ 10 → 1 * 2 ^ n % 18446744073709551616 ≡ 2 ^ n
-one-shifted n h = shl-exact {a = 1} 1 n 64 (lit< tt) (omega arith) ∙ one-mul (2 ^ n)
-
 -- a bit by a shift and a mask
-digit-odd : (x : ℕ) → digit (eqb (x % 2) 1) ≡ x % 2
-digit-odd x =
-    split (eqb (x % 2) 1) (λ e. rw e (sym (eqb→eq (x % 2) 1 (to-T e)))) (λ e. let d : x % 2 ≢ 1 = differ (x % 2) 1 e in rw e (omega arith))
-
-pub bit-masked : (n p s : ℕ) → p < n → bitAnd (s / 2 ^ (n - 1 - p)) 1 ≡ digit (bit n p s)
+pub bit-masked : (n p s : ℕ) → bitAnd (s / 2 ^ (n - 1 - p)) 1 ≡ digit (bit n p s)
 unfolding bit
-bit-masked n p s h =
+bit-masked n p s =
     let e : n - 1 - p ≡ n - suc p = omega arith in
-    and-mask (s / 2 ^ (n - 1 - p)) 1 ∙ ap (λ k. s / 2 ^ k % 2) e ∙ sym (digit-odd (s / 2 ^ (n - suc p)))
+    and-mask (s / 2 ^ (n - 1 - p)) 1 ∙ ap (λ k. s / 2 ^ k % 2) e ∙ sym (digit-eqb (s / 2 ^ (n - suc p) % 2) (omega arith))
 
 -- where an output's rows begin
 
 pub base-shifted : (j n : ℕ) → j < 16 → n ≤ 10 → j * 2 ^ n % 18446744073709551616 ≡ j * 2 ^ n
-base-shifted j n h k = shl-exact 4 n 64 h (omega arith)
+base-shifted j n h k = shifted-out n j k (le-of-lt h)
 
 pub base-room : (j n : ℕ) → j < 16 → n ≤ 10 → j * 2 ^ n % 18446744073709551616 < 65536
 base-room j n h k = rw (base-shifted j n h k) (lt-of-lt-of-le (shl-lt 4 n h) (pow-mono {j = 16} (omega arith)))

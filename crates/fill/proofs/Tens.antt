@@ -2,7 +2,7 @@
 -- Assumes nothing.
 use mathlib.Core.Path.{_≡_, refl, sym, ap, _∙_}
 use mathlib.Core.Bool.{cond}
-use mathlib.Core.List.{List, [], _∷_, _++_, map, sum, append-nil}
+use mathlib.Core.List.{List, [], _∷_, _++_, map, sum, append-nil, map-append}
 use Prim.Native.Nat.{ℕ, zero, suc, _+_, _≤_, _<_}
 use native.Mathlib.Nat.{add-assoc, add-zero}
 use native.Mathlib.Omega.{arith}
@@ -12,13 +12,13 @@ use lib.ListN.{length, getD, take, set, length-append, List·getD-append, List·
 use lib.Seq.{length-take-le, take-suc, take-all, getD-at, getD-take, ext-getD}
 use Rattle.diagram.specs.Lists.{upTo}
 use Rattle.diagram.proofs.Bools.{split}
+use Rattle.diagram.proofs.UpTo.{map-upTo-cong, getD-map-upTo}
+use Rattle.table.proofs.Filled.{filled, filled-more}
 use Rattle.fill.specs.Calls.{tenOf}
-use Rattle.fill.proofs.UpTo.{map-append, map-upTo-cong, getD-upTo}
-use Rattle.fill.proofs.Places.{counted, counted-more}
 
 -- the first numbers of a longer list
-ten-counted : (xs ys : List ℕ) → tenOf xs ≡ counted (λ w. getD (xs ++ ys) w 0) 10 (length xs)
-ten-counted xs ys =
+ten-filled : (xs ys : List ℕ) → tenOf xs ≡ filled (λ w. getD (xs ++ ys) w 0) 10 (length xs)
+ten-filled xs ys =
     map-upTo-cong 10 (λ w. getD xs w 0) (λ w. cond (ltb w (length xs)) (getD (xs ++ ys) w 0) 0)
     (λ w h. split (ltb w (length xs))
     (λ e. rw e (sym (List·getD-append xs ys 0 w (ltb-true w (length xs) e))))
@@ -30,13 +30,13 @@ ten-more xs x j l e h q =
     let ys = xs ++ (x ∷ []) in
     let n : length xs + 1 ≡ length ys = sym (length-append xs (x ∷ [])) in
     ap (λ (k : ℕ). set l k x) e
-    ∙ counted-more (λ w. getD ys w 0) 10 (length xs) x l h (q ∙ ten-counted xs (x ∷ [])) (sym (getD-at xs x [] 0 (length xs) refl))
-    ∙ ap (counted (λ w. getD ys w 0) 10) n
-    ∙ ap (λ (zs : List ℕ). counted (λ w. getD zs w 0) 10 (length ys)) (sym (append-nil ys))
-    ∙ sym (ten-counted ys [])
+    ∙ filled-more (λ w. getD ys w 0) 10 (length xs) h l x (q ∙ ten-filled xs (x ∷ [])) (sym (getD-at xs x [] 0 (length xs) refl))
+    ∙ ap (filled (λ w. getD ys w 0) 10) n
+    ∙ ap (λ (zs : List ℕ). filled (λ w. getD zs w 0) 10 (length ys)) (sym (append-nil ys))
+    ∙ sym (ten-filled ys [])
 
 pub ten-at : (xs : List ℕ) (k : ℕ) → k < 10 → getD (tenOf xs) k 0 ≡ getD xs k 0
-ten-at xs k h = getD-upTo (λ w. getD xs w 0) 10 k 0 h
+ten-at xs k h = getD-map-upTo (λ w. getD xs w 0) 10 k 0 h
 
 -- the list again
 pub ten-take : (xs : List ℕ) (n : ℕ) → length xs ≡ n → n ≤ 10 → take n (tenOf xs) ≡ xs

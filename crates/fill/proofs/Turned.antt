@@ -5,7 +5,7 @@ use mathlib.Core.Bool.{Bool, true, false}
 use mathlib.Core.List.{List, [], _∷_, _++_}
 use mathlib.Core.Logic.{_⊎_, inl, inr, ⊎-elim}
 use Prim.Native.Nat.{ℕ, suc, _+_, _*_, _≤_, _<_}
-use native.Mathlib.Nat.{mul-le-mul-right}
+use native.Mathlib.Nat.{le-of-lt, mul-le-mul-right}
 use native.Mathlib.Omega.{arith}
 use lib.ListN.{length, take, drop, length-drop}
 use lib.Seq.{drop-at, drop-drop}
@@ -13,10 +13,11 @@ use Rattle.fill.specs.Pack.{width}
 use Rattle.fill.specs.Parts.{levelParts, halfPart, halfParts}
 use Rattle.fill.specs.Level.{partAt, partsAt, written, halvesTaken}
 use Rattle.fill.proofs.Chunked.{length-chunks, chunks-more}
-use Rattle.fill.proofs.Halved.{length-half, width-most}
+use Rattle.fill.proofs.Halved.{length-half}
 use Rattle.fill.proofs.Long.{Long, long-chunks, level-grown, long-halves, length-halves, halves-append}
 use Rattle.fill.proofs.Levelled.{length-part}
 use Rattle.fill.proofs.Written.{written-none, fit-first, outside, level-step}
+use Rattle.fill.proofs.Shifts.{width-room}
 
 -- the part at a, whose halves are placed among the k entries at `to` and whose links go to l
 module _ (d a to k l : ℕ) (work cand : List ℕ)
@@ -132,7 +133,7 @@ module _ (d from count to links : ℕ) (work cand : List ℕ) (apart : (from + 4
           outside-region,
           (
             (omega (arith, in-region, ends), omega (arith, ends)),
-            (omega (arith, mul-le-mul-right (width d + width d) few, two-more), (omega (arith, ends), omega (arith, width-most d small))),
+            (omega (arith, mul-le-mul-right (width d + width d) few, two-more), (omega (arith, ends), omega (arith, width-room d (le-of-lt small)))),
           ),
         ),
       )

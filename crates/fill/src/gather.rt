@@ -1,29 +1,15 @@
 // The rows of an output, reordered under an order, gathered into packed bytes (document 01, section 3).
+use crate::halves::width_of;
 use table::bits::bit_at;
+use table::order::place_of;
 ghost use mathlib.Core.Path.{_≡_};
 ghost use mathlib.Core.List.{_++_};
 ghost use Prim.Native.Nat.{ℕ, _+_, _*_, _^_, _≤_, _<_, min};
-ghost use lib.Dec.{eqb};
 ghost use lib.ListN.{length, getD, take, drop};
-ghost use Rattle.diagram.specs.Lists.{digit, index, bit};
+ghost use Rattle.diagram.specs.Lists.{digit, bit};
 ghost use Rattle.table.specs.Calls.{over};
 ghost use Rattle.fill.specs.Pack.{width};
 ghost use Rattle.fill.specs.Gather.{placesOf, rowOf, gatheredByte, gatheredPlane, gatheredPart};
-
-// The level at which the variable v stands, or n.
-fn place_of(order: [usize; 10], n: usize, v: usize) -> usize
-    requires { ⌜ n ≤ 10 ⌝ }
-    ensures { λ r. ⌜ r ≡ index eqb v (take n order) ⌝ }
-{
-    let mut p: usize = 0;
-    while p < n {
-        if v == order[p] {
-            return p;
-        }
-        p += 1;
-    }
-    n
-}
 
 // The level of each variable below n, and zeros.
 pub(crate) fn places(order: [usize; 10], n: usize) -> [usize; 10]
@@ -91,18 +77,7 @@ fn gather_byte(plane: &[u8], base: usize, map: &[u16], i: usize, k: usize) -> u8
     byte
 }
 
-// The bytes that the rows of n variables take.
-fn width_of(n: usize) -> usize
-    requires { ⌜ n ≤ 10 ⌝ }
-    ensures { λ r. ⌜ r ≡ width n ⌝ }
-{
-    if n < 3 {
-        return 1;
-    }
-    1usize << (n - 3)
-}
-
-// The rows in each of those bytes.
+// The rows in each byte of those of n variables.
 fn rows_in(n: usize) -> usize
     requires { ⌜ n ≤ 10 ⌝ }
     ensures { λ r. ⌜ r ≡ min 8 (2 ^ n) ⌝ }

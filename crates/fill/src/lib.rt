@@ -25,7 +25,7 @@ ghost use Rattle.fill.specs.Filling.{refusedLevels};
 // The bytes of a region for one level's entries, the place of the first link behind two regions, and the bytes of the work buffer.
 const REGION: usize = 4096;
 
-const LINKS: usize = 8192;
+pub const LINKS: usize = 8192;
 
 pub const WORK: usize = 32768;
 

@@ -13,6 +13,7 @@ use Rattle.diagram.specs.Diagram.{Node, inverts, wellFormed, gives}
 use Rattle.diagram.specs.Order.{rowUnder}
 use Rattle.diagram.proofs.Bools.{to-T}
 use Rattle.diagram.proofs.Evaluate.{formed-roots, formed-nodes}
+use Rattle.diagram.proofs.Bits.{one-shifted}
 use Rattle.table.specs.declared.Answer.the-variants.{Done, ShortBuffer, NoNetwork, NoRow, BadCells}
 use Rattle.table.specs.declared.Stage.{Stage}
 use Rattle.table.specs.declared.Stage.the-variants.{Nothing, Table as AtTable, Network}
@@ -22,7 +23,6 @@ use Rattle.table.proofs.Held.{few-inputs, few-outputs, ordered}
 use Rattle.network.specs.Lent.{lentDiagram, rootsSize}
 use Rattle.network.specs.Cells.{lentCells, Followable, Rooted, outputAt}
 use Rattle.network.specs.Evaluate.{outputsOf, goodCells, rowOutputs, evaluateAnswer}
-use Rattle.network.proofs.Outputs.{bit-placed}
 
 network-held : (t : Stage) → T (isNetwork t) → T (not (isNothing t))
 network-held Nothing h = h
@@ -66,7 +66,7 @@ module _ (s : State) (row : ℕ) (roots cells : List ℕ) where
       roots-fit = omega (arith, few-outputs s table)
 
       rows : 1 * 2 ^ s .n % 2 ^ 64 ≡ 2 ^ s .n
-      rows = bit-placed (s .n) (omega (arith, inputs-few))
+      rows = one-shifted (s .n) (omega (arith, inputs-few))
 
       pub answer-no-row : 1 * 2 ^ s .n % 2 ^ 64 ≤ row → evaluateAnswer s row roots cells ≡ NoRow
       unfolding evaluateAnswer rootsSize

@@ -23,13 +23,14 @@ use Rattle.table.proofs.Held.{few-inputs, few-outputs}
 use Rattle.fill.specs.declared.Levels.{Levels}
 use Rattle.fill.specs.Work.{clearedWork, traceWork}
 use Rattle.fill.specs.Calls.{countAnswer, levelsOf, linksWork}
+use Rattle.fill.proofs.CallLaws.{levels-answer}
 use Rattle.network.specs.Lent.{lentDiagram, rootsSize}
 use Rattle.network.specs.Levels.{made, levelAt, levelsMade, rootAt, networkState}
 use Rattle.network.specs.Build.{wanted, capacity, buildOutcome, buildRoots, buildCells, buildWork, Built, FitDecides}
 use Rattle.network.proofs.HeldRead.{kss, heldEntries, heldCounts}
 use Rattle.network.proofs.LentNetwork.{built-lent, fit-held}
 use Rattle.network.proofs.Laid.{links-cleared, ready-end, ready-long, ready-total, ready-few, ready-next, laid-work, laid-cells, laid-roots}
-use Rattle.network.proofs.Outcomes.{told-refused, roots-short, count-refused, count-done, too-small, room-enough, refused-outcome, refused-roots, refused-cells, work-kept, work-cleared, done-outcome, done-roots, done-cells, links-kept-work, links-traced, levels-entries, levels-counts, levels-answer}
+use Rattle.network.proofs.Outcomes.{told-refused, roots-short, count-refused, count-done, too-small, room-enough, refused-outcome, refused-roots, refused-cells, work-kept, work-cleared, done-outcome, done-roots, done-cells, links-kept-work, links-traced, levels-entries, levels-counts}
 
 abbrev outcome : Answer → State → Outcome
 outcome x s = record { answer = x; state = s }

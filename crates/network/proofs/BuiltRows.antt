@@ -1,16 +1,14 @@
 -- After a build, evaluating any row gives the filled table's bits.
 -- Assumes nothing.
-use mathlib.Core.Path.{_≡_, refl, ap, ap₂, _∙_, subst}
+use mathlib.Core.Path.{_≡_, sym, ap, ap₂, _∙_, subst}
 use mathlib.Core.Bool.{Bool, true, not}
-use mathlib.Core.List.{List, [], _∷_, _++_, map}
-use Prim.Native.Nat.{ℕ, zero, suc, _+_, _*_, _/_, _^_, _≤_, _<_}
-use native.Mathlib.Nat.{le-step, lt-suc-self}
+use mathlib.Core.List.{List, _++_}
+use Prim.Native.Nat.{ℕ, _*_, _/_, _^_, _≤_, _<_}
 use native.Mathlib.Omega.{arith}
 use lib.Dec.{T}
 use borrow.Author.Tests.{le-leb, lt-ltb}
-use lib.ListN.{length, getD, drop, length-append, List·getD-append}
-use Rattle.diagram.specs.Lists.{digit, upTo}
-use Rattle.diagram.specs.Diagram.{Node, Diagram, wellFormed, gives}
+use lib.ListN.{length, getD, drop, length-append}
+use Rattle.diagram.specs.Diagram.{Diagram, wellFormed, gives}
 use Rattle.diagram.specs.Order.{rowUnder}
 use Rattle.diagram.specs.Table.{filledBit, Computes}
 use Rattle.diagram.proofs.Bools.{split, of-T}
@@ -20,8 +18,9 @@ use Rattle.table.specs.declared.Answer.the-variants.{Done}
 use Rattle.table.specs.State.{goodHeading, orderOf, stageOf, isNothing, isNetwork}
 use Rattle.table.specs.Calls.{over}
 use Rattle.table.proofs.Held.{few-outputs, stage-bad}
+use Rattle.table.proofs.Over.{length-over, getD-over}
 use Rattle.fill.specs.Calls.{heldTable}
-use Rattle.fill.proofs.UpTo.{length-map-upTo, getD-upTo}
+use Rattle.fill.proofs.DrawBytes.{gathered-cong}
 use Rattle.network.specs.Lent.{lentDiagram, numbersOf, rootsSize}
 use Rattle.network.specs.Levels.{networkState}
 use Rattle.network.specs.Evaluate.{outputsOf, goodCells, rowOutputs, evaluateAnswer}
@@ -29,15 +28,11 @@ use Rattle.network.specs.Build.{heldNetwork, wanted}
 use Rattle.network.proofs.RootTurns.{roots-size}
 use Rattle.network.proofs.HeldRead.{wanted-nodes}
 use Rattle.network.proofs.LentNetwork.{lent-network}
+use Rattle.network.proofs.LevelsRead.{numbers-length}
+use Rattle.network.proofs.Outputs.{outputs-gathered}
 
 outputs-same : (m : ℕ) (f g : ℕ → Bool) → ((j : ℕ) → j < m → f j ≡ g j) → outputsOf m f ≡ outputsOf m g
-outputs-same zero f g e = refl
-outputs-same (suc m) f g e =
-    ap₂ _+_ (outputs-same m f g (λ j h. e j (le-step h))) (ap (λ (b : Bool). digit b * 2 ^ m) (e m (lt-suc-self m)))
-
-numbers-length : (cs : List Node) → length (numbersOf cs) ≡ 3 * length cs
-numbers-length [] = refl
-numbers-length (c ∷ cs) = omega (arith, numbers-length cs)
+outputs-same m f g e = outputs-gathered m f ∙ gathered-cong m f g e ∙ sym (outputs-gathered m g)
 
 -- the state that a build leaves holds a network
 network-stage : (s : State) (count : ℕ) → T (not (isNothing (stageOf s))) → isNetwork (stageOf (networkState s count)) ≡ true
@@ -57,8 +52,7 @@ module _ (s : State) (values care roots cells : List ℕ) (held : T (not (isNoth
     (long : 16 ≤ length roots) (row : ℕ) (known : row < 2 ^ s .n) where
   roots-long : 16 ≤ length (builtRoots s values care roots)
   roots-long =
-      let f : ℕ → ℕ = λ j. getD (heldNetwork s values care .roots) j 0 in
-      omega (arith, length-append (map f (upTo rootsSize)) (drop rootsSize roots), length-map-upTo f rootsSize, roots-size)
+      omega (arith, length-over (λ j. getD (heldNetwork s values care .roots) j 0) rootsSize roots (omega (arith, roots-size)))
 
   cells-enough : wanted s values care ≤ length (builtCells s values care cells) / 3
   cells-enough =
@@ -77,9 +71,7 @@ module _ (s : State) (values care roots cells : List ℕ) (held : T (not (isNoth
 
   root-there : (j : ℕ) → j < s .m → getD (builtRoots s values care roots) j 0 ≡ getD (heldNetwork s values care .roots) j 0
   root-there j h =
-      let f : ℕ → ℕ = λ k. getD (heldNetwork s values care .roots) k 0 in
-      let b : j < rootsSize = omega (arith, few-outputs s held, roots-size) in
-      List·getD-append (map f (upTo rootsSize)) (drop rootsSize roots) 0 j (omega (arith, length-map-upTo f rootsSize)) ∙ getD-upTo f rootsSize j 0 b
+      getD-over (λ k. getD (heldNetwork s values care .roots) k 0) rootsSize roots j 0 (omega (arith, few-outputs s held, roots-size))
 
   -- every row's outputs are the filled table's
   pub built-row : rowOutputs (networkState s (wanted s values care)) row (builtRoots s values care roots) (builtCells s values care cells)

@@ -7,25 +7,19 @@ use Prim.Native.Nat.{ℕ, zero, suc, _+_, _*_, _-_, _%_, _≤_, _<_}
 use native.Mathlib.Nat.{le-refl, le-trans, add-zero, add-suc}
 use native.Mathlib.Numerals.{add-one}
 use native.Mathlib.Omega.{arith}
-use borrow.Author.Tests.{eq-eqb, ne-eqb, eqb-true, eqb-false}
+use borrow.Author.Tests.{eq-eqb, ne-eqb}
 use lib.Dec.{eqb}
 use lib.ListN.{length, length-set}
 use lib.Seq.{sets}
-use Rattle.diagram.specs.Lists.{digit}
 use Rattle.diagram.specs.Diagram.{inverts}
 use Rattle.diagram.specs.Network.{reference}
 use Rattle.diagram.specs.Trace.{opposite}
 use Rattle.diagram.proofs.Bools.{split}
+use Rattle.diagram.proofs.Bits.{digit-eqb}
 use Rattle.network.specs.Levels.{wordAt, putWord, refAt, Made, made, noded, entryMade, levelMade}
 
--- the low bit of a reference says whether it inverts
-digit-odd : (r : ℕ) → digit (inverts true r) ≡ r % 2
-digit-odd r =
-    split (eqb (r % 2) 1) (λ e. rw e (sym (eqb-true (r % 2) 1 e)))
-    (λ e. rw e (let d : r % 2 ≡ 1 → ⊥ = eqb-false (r % 2) 1 e in omega arith))
-
 node-reference : (next r : ℕ) → reference true next (inverts true r) ≡ 2 * (next + 1) + r % 2
-node-reference next r = rw (digit-odd r) (omega arith)
+node-reference next r = rw (digit-eqb (r % 2) (omega arith)) (omega arith)
 
 module _ (work cells : List ℕ) (p below i next k l : ℕ) (ek : k ≡ wordAt work i) (el : l ≡ wordAt work (i + 2)) where
   alike : k ≡ l → eqb (wordAt work i) (wordAt work (i + 2)) ≡ true

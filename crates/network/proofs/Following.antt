@@ -3,10 +3,10 @@
 use mathlib.Core.Path.{_≡_, refl, sym, ap, _∙_}
 use mathlib.Core.Bool.{Bool, true, false, cond}
 use mathlib.Core.List.{List}
-use Prim.Native.Nat.{ℕ, suc, _+_, _*_, _-_, _/_, _%_, _^_, _≤_, _<_}
+use Prim.Native.Nat.{ℕ, suc, _+_, _*_, _-_, _/_, _^_, _≤_, _<_}
 use native.Mathlib.Omega.{arith}
 use borrow.Author.Tests.{lt-ltb, le-ltb}
-use lib.Bits.{bitAnd, and-mask}
+use lib.Bits.{bitAnd}
 use lib.Dec.{T, eqb, ltb, leb→le}
 use lib.ListN.{length, getD, take}
 use lib.Seq.{getD-take}
@@ -19,6 +19,8 @@ use Rattle.diagram.proofs.Reference.{from, from-reached}
 use Rattle.diagram.proofs.Right.{from-refers}
 use Rattle.diagram.proofs.Function.{Good, node-level, node-edge, gives-constant}
 use Rattle.diagram.proofs.Evaluate.{from-top, gives-edge}
+use Rattle.diagram.proofs.Bits.{eqb-digit}
+use Rattle.fill.proofs.Shifts.{bit-masked}
 use Rattle.network.specs.Lent.{lentNode}
 use Rattle.network.specs.Cells.{lentCells, Followable}
 use Rattle.network.proofs.Nodes.{lent-length}
@@ -31,12 +33,9 @@ variable-below n order o p h = omega (arith, order-at n (take n order) o p h, ge
 
 pub bit-shifted : (n : ℕ) (order : List ℕ) (row p : ℕ) → p < n
     → eqb (bitAnd (row / 2 ^ (n - 1 - getD order p 0)) 1) 1 ≡ rowUnder n (take n order) row p
-unfolding bit
 bit-shifted n order row p h =
     let v = getD order p 0 in
-    let e : n - 1 - v ≡ n - suc v = omega arith in
-    ap (λ (k : ℕ). eqb k 1) (and-mask (row / 2 ^ (n - 1 - v)) 1)
-    ∙ ap (λ (k : ℕ). eqb (row / 2 ^ k % 2) 1) (e ∙ ap (λ (w : ℕ). n - suc w) (sym (getD-take n order p 0 h)))
+    ap (λ (k : ℕ). eqb k 1) (bit-masked n v row) ∙ eqb-digit (bit n v row) ∙ ap (λ (w : ℕ). bit n w row) (sym (getD-take n order p 0 h))
 
 -- the cell behind a reference, and its edge for the row's bit
 

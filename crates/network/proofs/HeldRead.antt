@@ -24,6 +24,7 @@ use Rattle.diagram.proofs.Rising.{AllValid}
 use Rattle.diagram.proofs.Traced.{traced, traced-counts}
 use Rattle.diagram.proofs.Bound.{most}
 use Rattle.diagram.proofs.Demands.{filled-length}
+use Rattle.diagram.proofs.UpTo.{length-map-upTo, map-upTo-cong}
 use Rattle.table.specs.declared.State.{State}
 use Rattle.table.specs.State.{orderOf, stageOf, isNothing}
 use Rattle.table.specs.Stream.{sum}
@@ -31,8 +32,9 @@ use Rattle.table.specs.Calls.{over}
 use Rattle.table.proofs.Held.{few-inputs, few-outputs}
 use Rattle.fill.specs.Work.{workSize, linksAt, joined, traceWork, zeroWork, clearedWork}
 use Rattle.fill.specs.Calls.{heldTable, drawnOutputs, entryCounts, tenOf}
-use Rattle.fill.proofs.UpTo.{length-map-upTo, getD-upTo, map-upTo-cong}
-use Rattle.network.proofs.LinksRoom.{links-room}
+use Rattle.fill.proofs.LinksRoom.{links-room}
+use Rattle.fill.proofs.Tens.{ten-at}
+use Rattle.fill.proofs.Holding.{work-size}
 use Rattle.network.specs.Lent.{numbersOf, rootsSize}
 use Rattle.network.specs.Build.{heldNetwork, wanted}
 use Rattle.network.specs.Levels.{wordAt, refAt, Made, made, levelAt, levelsMade, rootAt}
@@ -42,7 +44,7 @@ use Rattle.network.proofs.LevelTurns.{levels-work}
 use Rattle.network.proofs.Offsets.{first-at, sum-below}
 use Rattle.network.proofs.RootTurns.{root-past, root-link}
 use Rattle.network.proofs.TraceSized.{links-valid, lower-length, trace-sized, trace-valid}
-use Rattle.network.proofs.WorkLinks.{work-size, links-at, trace-links, trace-long, trace-past, past-same, clear-zero}
+use Rattle.network.proofs.WorkLinks.{links-at, trace-links, trace-long, trace-past, past-same, clear-zero}
 
 module _ (s : State) (values care : List ℕ) where
   abbrev pub drawn : List (Tree Row (s .n))
@@ -90,11 +92,7 @@ module _ (s : State) (values care : List ℕ) where
   wanted-nodes = refl
 
   module _ (held : T (not (isNothing (stageOf s)))) where
-    ten-at : (xs : List ℕ) (j : ℕ) → j < s .n → getD (tenOf xs) j 0 ≡ getD xs j 0
-    ten-at xs j h = getD-upTo (λ k. getD xs k 0) 10 j 0 (omega (arith, few-inputs s held))
-
     pub room : length (joined kss) ≤ 4350
-    unfolding mostVariables mostOutputs
     room = links-room (s .n) drawn (few-inputs s held) (subst (λ k. k ≤ 16) (sym drawn-length) (few-outputs s held))
 
     pub few-wanted : wanted s values care ≤ 2159
@@ -106,8 +104,8 @@ module _ (s : State) (values care : List ℕ) where
     sized : Sized (s .m) heldEntries heldCounts 0 lss
     sized =
         trace-sized (s .m) heldEntries heldCounts (s .n) 0 drawn
-        (λ j h. ap (λ i. getD heldEntries i 0) (zero-add j) ∙ ten-at (entryCounts (s .n) drawn) j h)
-        (λ j h. ap (λ i. getD heldCounts i 0) (zero-add j) ∙ ten-at (counts true (s .n) (filled true (heldTable s values care) (orderOf s))) j h
+        (λ j h. ap (λ i. getD heldEntries i 0) (zero-add j) ∙ ten-at (entryCounts (s .n) drawn) j (omega (arith, few-inputs s held)))
+        (λ j h. ap (λ i. getD heldCounts i 0) (zero-add j) ∙ ten-at (counts true (s .n) (filled true (heldTable s values care) (orderOf s))) j (omega (arith, few-inputs s held))
         ∙ ap (λ (l : List ℕ). getD l j 0) (sym counts-traced))
 
     levels-length : 0 + length lss ≡ s .n

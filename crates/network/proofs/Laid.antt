@@ -3,7 +3,7 @@
 use mathlib.Core.Path.{_≡_, sym, ap, ap₂, _∙_, subst}
 use mathlib.Core.Bool.{not}
 use mathlib.Core.List.{List, _++_}
-use Prim.Native.Nat.{ℕ, _+_, _*_, _-_, _≤_, _<_}
+use Prim.Native.Nat.{ℕ, _*_, _-_, _≤_, _<_}
 use native.Mathlib.Omega.{arith}
 use lib.Dec.{T}
 use lib.ListN.{length, getD, drop}
@@ -12,11 +12,12 @@ use Rattle.table.specs.State.{stageOf, isNothing}
 use Rattle.table.specs.Stream.{sum}
 use Rattle.table.specs.Calls.{over}
 use Rattle.fill.specs.Work.{traceWork, zeroWork, clearedWork}
+use Rattle.fill.proofs.Holding.{work-size}
 use Rattle.network.specs.Lent.{numbersOf, rootsSize}
 use Rattle.network.specs.Build.{heldNetwork, wanted}
 use Rattle.network.specs.Levels.{Made, made, levelAt, levelsMade, rootAt}
 use Rattle.network.proofs.HeldRead.{kss, heldEntries, heldCounts, room, few-wanted, held-end, held-total, held-next, held-cells, held-work, held-roots}
-use Rattle.network.proofs.WorkLinks.{work-size, trace-long, trace-past, clear-zero}
+use Rattle.network.proofs.WorkLinks.{trace-long, trace-past, clear-zero}
 
 module _ (s : State) (values care : List ℕ) (held : T (not (isNothing (stageOf s)))) (work : List ℕ) where
   -- the links cleared at once

@@ -7,7 +7,7 @@ use Prim.Native.Nat.{ℕ, zero, suc, _+_, _*_, _≤_, _<_}
 use native.Mathlib.Nat.{not-suc-le-zero, le-of-suc-le-suc}
 use native.Mathlib.Omega.{arith}
 use lib.Dec.{T, eqb→eq}
-use lib.ListN.{length, getD, take, drop, List·getD-append, length-append}
+use lib.ListN.{length, getD, take, drop, length-append}
 use lib.Seq.{ext-getD, length-take-le, getD-take}
 use Rattle.diagram.specs.Lists.{upTo}
 use Rattle.diagram.specs.Diagram.{Node}
@@ -16,12 +16,13 @@ use Rattle.diagram.specs.Table.{networkOf, cost, Computes}
 use Rattle.diagram.specs.Demands.{FitsFrom}
 use Rattle.diagram.proofs.Evaluate.{formed-length}
 use Rattle.diagram.proofs.Demands.{kept, right, least-cost, fits}
+use Rattle.diagram.proofs.UpTo.{length-map-upTo, getD-map-upTo}
 use Rattle.table.specs.declared.State.{State}
 use Rattle.table.specs.State.{orderOf, stageOf, isNothing}
 use Rattle.table.specs.Calls.{over}
 use Rattle.table.proofs.Held.{few-outputs, ordered}
+use Rattle.table.proofs.Over.{getD-over}
 use Rattle.fill.specs.Calls.{heldTable}
-use Rattle.fill.proofs.UpTo.{length-map-upTo, getD-upTo}
 use Rattle.network.specs.Lent.{lentNode, lentDiagram, numbersOf, rootsSize}
 use Rattle.network.specs.Build.{heldNetwork, wanted, Built, FitDecides}
 use Rattle.network.proofs.RootTurns.{roots-size}
@@ -48,7 +49,7 @@ lent-nodes ns rest =
     let f = lentNode (numbersOf ns ++ rest) in
     ext-getD (node 0 0 0) (map f (upTo (length ns))) ns (length-map-upTo f (length ns))
     (λ i h. let k : i < length ns = omega (arith, length-map-upTo f (length ns)) in
-    getD-upTo f (length ns) i (node 0 0 0) k ∙ lent-at ns rest (node 0 0 0) i k)
+    getD-map-upTo f (length ns) i (node 0 0 0) k ∙ lent-at ns rest (node 0 0 0) i k)
 
 -- the first m of some numbers written over others are those
 taken : (l : List ℕ) (k : ℕ) (rest : List ℕ) → length l ≤ k → take (length l) (over (λ j. getD l j 0) k rest) ≡ l
@@ -58,8 +59,7 @@ taken l k rest h =
     length-take-le (length l) (over f k rest) (omega (arith, length-append (map f (upTo k)) (drop k rest), length-map-upTo f k)) in
     ext-getD 0 (take (length l) (over f k rest)) l e
     (λ i a. let b : i < length l = omega (arith, e) in
-    getD-take (length l) (over f k rest) i 0 b ∙ List·getD-append (map f (upTo k)) (drop k rest) 0 i (omega (arith, length-map-upTo f k))
-    ∙ getD-upTo f k i 0 (omega arith))
+    getD-take (length l) (over f k rest) i 0 b ∙ getD-over f k rest i 0 (omega arith))
 
 module _ (s : State) (values care : List ℕ) (held : T (not (isNothing (stageOf s)))) where
   roots-length : length (heldNetwork s values care .roots) ≡ s .m

@@ -19,5 +19,4 @@ pub mod Tested
 pub mod TraceSized
 pub mod Words
 pub mod WorkLinks
-pub mod LinksRoom
 pub mod BuiltRows

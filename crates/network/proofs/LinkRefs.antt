@@ -8,7 +8,7 @@ use native.Mathlib.Nat.{add-zero, le-of-suc-le-suc, not-suc-le-zero}
 use native.Mathlib.Omega.{arith}
 use native.Mathlib.Numerals.{add-one}
 use borrow.Author.Tests.{lt-ltb, le-ltb, eq-eqb, ne-eqb, eqb-true, eqb-false}
-use lib.Dec.{eqb, lit<, lit≤}
+use lib.Dec.{eqb, lit<}
 use lib.ListN.{length, getD}
 use Rattle.diagram.specs.Lists.{digit}
 use Rattle.diagram.specs.Fill.{Link, const, entry}
@@ -16,6 +16,7 @@ use Rattle.diagram.specs.Diagram.{inverts}
 use Rattle.diagram.specs.Trace.{opposite, sameLink, linkRef}
 use Rattle.diagram.proofs.Bools.{split, to-T, beq→eq}
 use Rattle.diagram.proofs.Rising.{Valid, AllValid}
+use Rattle.diagram.proofs.Bits.{digit-le, eqb-digit}
 use Rattle.fill.specs.Parts.{linkNumber}
 use Rattle.network.specs.Levels.{wordAt, refAt}
 use Rattle.network.proofs.Words.{same-word}
@@ -43,21 +44,13 @@ ref-entry work below k h = rw (le-ltb k 2 h)
 
 -- the number of a link: 0 and 1 the constants, then two an entry
 
-pub digit-small : (i : Bool) → digit i ≤ 1
-digit-small true = lit≤ tt
-digit-small false = lit≤ tt
-
-digit-odd : (i : Bool) → eqb (digit i) 1 ≡ i
-digit-odd true = refl
-digit-odd false = refl
-
 number-odd : (k : ℕ) (i : Bool) → inverts true (linkNumber (entry k i)) ≡ i
 number-odd k i =
-    let e : (2 * suc k + digit i) % 2 ≡ digit i = omega (arith, digit-small i) in
-    ap (λ x. eqb x 1) e ∙ digit-odd i
+    let e : (2 * suc k + digit i) % 2 ≡ digit i = omega (arith, digit-le i) in
+    ap (λ x. eqb x 1) e ∙ eqb-digit i
 
 number-index : (k : ℕ) (i : Bool) → linkNumber (entry k i) / 2 - 1 ≡ k
-number-index k i = omega (arith, digit-small i)
+number-index k i = omega (arith, digit-le i)
 
 -- different links have different numbers
 
@@ -69,8 +62,8 @@ digits-same false false = refl
 
 pub numbers-same : (k l : Link) → eqb (linkNumber k) (linkNumber l) ≡ sameLink k l
 numbers-same (const v) (const w) = digits-same v w
-numbers-same (const v) (entry l j) = ne-eqb (digit v) (2 * suc l + digit j) (λ e. omega (arith, digit-small v))
-numbers-same (entry k i) (const w) = ne-eqb (2 * suc k + digit i) (digit w) (λ e. omega (arith, digit-small w))
+numbers-same (const v) (entry l j) = ne-eqb (digit v) (2 * suc l + digit j) (λ e. omega (arith, digit-le v))
+numbers-same (entry k i) (const w) = ne-eqb (2 * suc k + digit i) (digit w) (λ e. omega (arith, digit-le w))
 numbers-same (entry k i) (entry l j) =
     split (eqb k l)
     (λ e. rw e (split (Bool·beq i j)
@@ -78,7 +71,7 @@ numbers-same (entry k i) (entry l j) =
     (λ q. rw q (ne-eqb (2 * suc k + digit i) (2 * suc l + digit j)
     (λ a. let k≡l = eqb-true k l e in eqb-false (digit i) (digit j) (digits-same i j ∙ q) (omega arith))))))
     (λ e. rw e (ne-eqb (2 * suc k + digit i) (2 * suc l + digit j)
-    (λ a. eqb-false k l e (omega (arith, digit-small i, digit-small j)))))
+    (λ a. eqb-false k l e (omega (arith, digit-le i, digit-le j)))))
 
 -- links in the work buffer from byte i on, and references every four bytes
 

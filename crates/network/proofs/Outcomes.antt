@@ -182,7 +182,3 @@ module _ (s : State) (values care work : List ℕ) where
     pub levels-counts : levelsOf s values care work .counts ≡ tenOf (counts true (s .n) (filled true (heldTable s values care) (orderOf s)))
     unfolding levelsOf
     levels-counts = rw e
-
-  pub levels-answer : levelsOf s values care work .answer ≡ countAnswer s values care work
-  unfolding levelsOf
-  levels-answer = refl

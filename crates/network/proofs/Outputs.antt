@@ -9,7 +9,7 @@ use native.Mathlib.Numerals.{add-one}
 use native.Mathlib.Omega.{arith}
 use lib.Dec.{T, eqb, eqb→eq}
 use lib.ListN.{length, getD, take}
-use lib.Pow.{pow-add, pow-mono, shl-exact, high, field}
+use lib.Pow.{pow-add, pow-mono, high, field}
 use lib.Seq.{length-take-le, getD-take}
 use Rattle.diagram.specs.Lists.{digit, all}
 use Rattle.diagram.specs.Diagram.{Diagram, refers, gives}
@@ -17,6 +17,9 @@ use Rattle.diagram.specs.Order.{rowUnder}
 use Rattle.diagram.proofs.Bools.{split, to-T}
 use Rattle.diagram.proofs.Lists.{all-at}
 use Rattle.diagram.proofs.Numbers.{below-other}
+use Rattle.diagram.proofs.Bits.{one-shifted}
+use Rattle.fill.specs.Gather.{gathered}
+use Rattle.fill.proofs.Gathered.{gathered-lt}
 use Rattle.network.specs.Cells.{lentCells, outputAt}
 use Rattle.network.specs.Evaluate.{outputsOf}
 
@@ -32,17 +35,13 @@ pub output-found : (n count : ℕ) (order cells : List ℕ) (row : ℕ) (roots :
 unfolding outputAt
 output-found n count order cells row roots j r e b q = rw (← e) (sym q)
 
-digit-shifted : (b : Bool) (j : ℕ) → digit b * 2 ^ j ≤ 2 ^ j
-digit-shifted true j = omega arith
-digit-shifted false j = omega arith
+-- they are gathered as a byte's bits are
+pub outputs-gathered : (m : ℕ) (f : ℕ → Bool) → outputsOf m f ≡ gathered m f
+outputs-gathered zero f = refl
+outputs-gathered (suc m) f = ap (λ (x : ℕ). x + digit (f m) * 2 ^ m) (outputs-gathered m f)
 
 pub outputs-below : (m : ℕ) (f : ℕ → Bool) → outputsOf m f < 2 ^ m
-outputs-below zero f = omega arith
-outputs-below (suc m) f = omega (arith, outputs-below m f, digit-shifted (f m) m)
-
--- the bit that stands for output j
-pub bit-placed : (j : ℕ) → j < 64 → 1 * 2 ^ j % 2 ^ 64 ≡ 2 ^ j
-bit-placed j h = shl-exact {a = 1} 1 j 64 (omega arith) (omega arith) ∙ omega arith
+outputs-below m f = rw (outputs-gathered m f) (gathered-lt m f)
 
 -- output j added to the outputs before it
 module _ (f : ℕ → Bool) (j total : ℕ) (so-far : total ≡ outputsOf j f) where
@@ -50,7 +49,7 @@ module _ (f : ℕ → Bool) (j total : ℕ) (so-far : total ≡ outputsOf j f) w
   output-small h = let k : 2 ^ j ≤ 2 ^ 15 = pow-mono {i = j} {j = 15} (omega arith) in (omega (arith, outputs-below j f), k)
 
   pub output-one : j < 16 → f j ≡ true → total + 1 * 2 ^ j % 2 ^ 64 ≡ outputsOf (j + 1) f
-  output-one h e = rw (add-one, e) (omega (arith, bit-placed j (omega arith)))
+  output-one h e = rw (add-one, e) (omega (arith, one-shifted j (omega arith)))
 
   pub output-zero : f j ≡ false → total ≡ outputsOf (j + 1) f
   output-zero e = rw (add-one, e) (omega arith)

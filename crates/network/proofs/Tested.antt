@@ -4,7 +4,6 @@ use mathlib.Core.Path.{_≡_, sym, ap, _∙_}
 use mathlib.Core.Bool.{Bool, true, false, _&&_, and-false}
 use mathlib.Core.List.{List}
 use Prim.Native.Nat.{ℕ, _+_, _*_, _-_, _/_, _≤_, _<_}
-use native.Mathlib.Numerals.{add-one}
 use native.Mathlib.Omega.{arith}
 use borrow.Author.Tests.{lt-ltb, le-ltb, le-leb, lt-leb, eq-eqb}
 use lib.Dec.{ltb}
@@ -12,7 +11,7 @@ use lib.ListN.{length, getD, take}
 use lib.Seq.{length-take-le}
 use Rattle.diagram.specs.Lists.{all, upTo}
 use Rattle.diagram.specs.Diagram.{later, refers, nodeAt, nodeGood, wellFormed}
-use Rattle.diagram.proofs.Numbers.{all-upTo-suc, all-upTo-fails}
+use Rattle.diagram.proofs.Numbers.{all-upTo-fails, all-upTo-more}
 use Rattle.network.specs.Lent.{lentNode, lentDiagram}
 use Rattle.network.specs.Cells.{lentCells}
 use Rattle.network.proofs.Nodes.{lent-length, lent-at, all-nodes, all-first}
@@ -24,10 +23,6 @@ goodNode count cells n i = nodeGood true n (lentCells count cells) (lentNode cel
 
 abbrev pub ownRoot : ℕ → List ℕ → List ℕ → ℕ → Bool
 ownRoot count cells roots j = refers true (lentCells count cells) (getD roots j 0)
-
--- a test of every number below i, one number more
-pub all-more : (q : ℕ → Bool) (i : ℕ) → all q (upTo i) ≡ true → q i ≡ true → all q (upTo (i + 1)) ≡ true
-all-more q i e g = rw (add-one, all-upTo-suc q i, e) g
 
 module _ (count : ℕ) (cells : List ℕ) where
   -- a reference
@@ -90,7 +85,7 @@ module _ (count : ℕ) (cells : List ℕ) where
 
     pub roots-more : (j r : ℕ) → r ≡ getD roots j 0 → r ≤ count + count + 1 → all (ownRoot count cells roots) (upTo j) ≡ true
         → all (ownRoot count cells roots) (upTo (j + 1)) ≡ true
-    roots-more j r e k t = all-more (ownRoot count cells roots) j t (refers-own (getD roots j 0) (omega arith))
+    roots-more j r e k t = all-upTo-more (ownRoot count cells roots) j t (refers-own (getD roots j 0) (omega arith))
 
     pub roots-good : (j : ℕ) → j ≡ m → all (ownRoot count cells roots) (upTo j) ≡ true
         → all (refers true (lentCells count cells)) (take m roots) ≡ true

@@ -10,16 +10,14 @@ use lib.ListN.{length, getD, drop, replicate, length-append, length-drop, length
 use lib.Seq.{ext-getD, getD-drop, getD-at, drop-at}
 use Rattle.diagram.specs.Fill.{Link, const, entry}
 use Rattle.diagram.proofs.Rising.{Valid, AllValid}
+use Rattle.diagram.proofs.Bits.{digit-le}
 use Rattle.fill.specs.Parts.{linkNumber}
 use Rattle.fill.specs.Work.{workSize, linksAt, linkBytes, joined, traceWork, zeroWork, clearedWork}
-use Rattle.network.proofs.LinksRoom.{bytes-length}
+use Rattle.fill.proofs.Long.{length-links}
+use Rattle.fill.proofs.Holding.{work-size}
 use Rattle.network.specs.Levels.{wordAt}
 use Rattle.network.proofs.Words.{Outside}
-use Rattle.network.proofs.LinkRefs.{Links, digit-small}
-
-pub work-size : workSize ≡ 32768
-unfolding workSize
-work-size = refl
+use Rattle.network.proofs.LinkRefs.{Links}
 
 pub links-at : linksAt ≡ 8192
 unfolding linksAt
@@ -27,8 +25,8 @@ links-at = refl
 
 -- a link to one of few entries has a number of two bytes
 number-small : (k : Link) → Valid true 4350 k → linkNumber k < 65536
-number-small (const b) v = omega (arith, digit-small b)
-number-small (entry k i) v = omega (arith, digit-small i)
+number-small (const b) v = omega (arith, digit-le b)
+number-small (entry k i) v = omega (arith, digit-le i)
 
 bytes-word : (p : List ℕ) (n : ℕ) (q : List ℕ) → n < 65536 → wordAt (p ++ (n % 256 ∷ n / 256 % 256 ∷ q)) (length p) ≡ n
 bytes-word p n q h =
@@ -94,7 +92,7 @@ module _ (kss : List (List Link)) (work : List ℕ) (room : length (joined kss) 
         length-append bytes zeros,
         length-replicate {A = ℕ} linksAt 0,
         length-replicate {A = ℕ} (workSize - linksAt - length bytes) 0,
-        bytes-length (joined kss),
+        length-links (joined kss),
         work-size,
         links-at,
       ) in

@@ -2,8 +2,8 @@
 use crate::ROOTS;
 use crate::levels::links_end;
 use crate::levels::read_levels;
-use crate::links::LINKS_AT;
 use crate::roots::write_roots;
+use fill::LINKS;
 use fill::clear;
 use fill::links;
 use table::Answer;
@@ -48,7 +48,7 @@ fn lay_out(
 {
     let end = links_end(n, m, entries);
     read_levels(n, m, entries, counts, end, total, work, cells);
-    let first = LINKS_AT + 2 * m;
+    let first = LINKS + 2 * m;
     write_roots(work, m, first, roots);
     clear(work);
 }

@@ -1,9 +1,9 @@
 // The network's nodes, read off the links of the levels.
-use crate::links::LINKS_AT;
 use crate::links::link_ref;
 use crate::links::put_word;
 use crate::links::turned;
 use crate::links::word_at;
+use fill::LINKS;
 ghost use mathlib.Core.Path.{_≡_};
 ghost use mathlib.Core.List.{[], _∷_};
 ghost use Prim.Native.Nat.{ℕ, _+_, _-_, _*_, _<_, _≤_};
@@ -85,7 +85,7 @@ pub(crate) fn links_end(n: usize, m: usize, entries: [usize; 10]) -> usize
     requires { ⌜ (n ≤ 10) × (m ≤ 16) × (levelAt m entries n < 65536) ⌝ }
     ensures { λ r. ⌜ r ≡ levelAt m entries n ⌝ }
 {
-    let mut end = LINKS_AT + 2 * m;
+    let mut end = LINKS + 2 * m;
     let mut p: usize = 0;
     while p < n {
         let e = entries[p];

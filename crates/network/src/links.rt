@@ -6,9 +6,6 @@ ghost use lib.ListN.{length};
 ghost use Rattle.diagram.specs.Trace.{opposite};
 ghost use Rattle.network.specs.Levels.{wordAt, putWord, refAt};
 
-// Where the links begin in the work buffer.
-pub(crate) const LINKS_AT: usize = 8192;
-
 // The number at byte i.
 pub(crate) fn word_at(work: &[u8], i: usize) -> usize
     requires { ⌜ i < 1000000 ⌝ }

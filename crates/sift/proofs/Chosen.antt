@@ -8,7 +8,7 @@ use Prim.Native.Nat.{ℕ, _≤_, _<_}
 use native.Mathlib.Omega.{arith}
 use lib.Dec.{T, eqb}
 use lib.ListN.{getD}
-use Rattle.diagram.specs.Lists.{has, index, keep, upTo}
+use Rattle.diagram.specs.Lists.{has, index, upTo}
 use Rattle.diagram.specs.Network.{counts}
 use Rattle.diagram.specs.Order.{isOrder}
 use Rattle.diagram.specs.Table.{Table, filled}
@@ -18,8 +18,8 @@ use Rattle.diagram.proofs.Lists.{eqb-equality, has-here, keep-has}
 use Rattle.diagram.proofs.Numbers.{upTo-lt}
 use Rattle.diagram.proofs.Order.{index-below}
 use Rattle.diagram.proofs.Most.{most-has}
-use Rattle.table.proofs.Filled.{listed-at}
 use Rattle.fill.specs.Calls.{tenOf}
+use Rattle.fill.proofs.Tens.{ten-at}
 use Rattle.sift.specs.Choice.{nodesAt, left, nextOf}
 
 -- two numberings that agree on a list have the same first with the most
@@ -37,14 +37,6 @@ most-cong f g [] e = refl
 most-cong f g (v ∷ vs) e =
     mostOf-cong f g v vs (e v (has-here eqb eqb-equality v vs)) (λ w h. e w (or-r (eqb w v) (has eqb w vs) h))
 
--- two tests that agree on a list keep the same of it
-pub keep-cong : (p q : ℕ → Bool) (vs : List ℕ) → ((w : ℕ) → T (has eqb w vs) → p w ≡ q w) → keep p vs ≡ keep q vs
-keep-cong p q [] e = refl
-keep-cong p q (v ∷ vs) e =
-    let r = keep-cong p q vs (λ w h. e w (or-r (eqb w v) (has eqb w vs) h)) in
-    let d : p v ≡ q v = e v (has-here eqb eqb-equality v vs) in
-    rw (d, r)
-
 most-below : (f : ℕ → ℕ) (n : ℕ) (vs : List ℕ) → ((w : ℕ) → T (has eqb w vs) → w < n) → 0 < n → most f vs < n
 most-below f n [] b h = h
 most-below f n (v ∷ vs) b h = b (most f (v ∷ vs)) (most-has f (v ∷ vs) (omega arith))
@@ -61,7 +53,7 @@ module _ (t : Table) (order : List ℕ) (done : List Bool) (o : T (isOrder (t .n
   nodes-ten : (v : ℕ) → v < t .n → nodesAt (tenOf (counts true (t .n) (filled true t order))) order v ≡ nodesOf t order v
   unfolding nodesOf
   nodes-ten v h =
-      listed-at (λ p. getD (counts true (t .n) (filled true t order)) p 0) 10 (index eqb v order)
+      ten-at (counts true (t .n) (filled true t order)) (index eqb v order)
       (omega (arith, index-below (t .n) order o v h))
 
   pub next-counted : (cs : List ℕ) → cs ≡ tenOf (counts true (t .n) (filled true t order))

@@ -5,12 +5,13 @@ use mathlib.Core.Path.{_≡_, refl, sym, ap, ap₂, _∙_, subst}
 use mathlib.Core.Bool.{false, cond}
 use mathlib.Core.List.{List, [], _∷_, _++_}
 use Prim.Native.Nat.{ℕ, zero, suc, _+_, _-_, _≤_, _<_, zero-le}
+use native.Mathlib.Nat.{zero-add}
 use native.Mathlib.Numerals.{add-one}
 use native.Mathlib.Omega.{arith}
 use borrow.Author.Tests.{lt-ltb, le-ltb, eq-eqb, ne-eqb, ltb-true, ltb-false, eqb-true, eqb-false}
 use lib.Dec.{T, eqb, ltb, eqb→eq, leb·suc-suc}
 use lib.ListN.{length, getD, set, take, drop, List·getD-append}
-use lib.Seq.{length-take-le, take-suc, take-all, drop-cons, getD-at, getD-append-add, getD-take, getD-drop, set-at, append-snoc}
+use lib.Seq.{length-take-le, take-all, getD-at, getD-append-add, getD-take, getD-drop, paste-suc}
 use Rattle.diagram.specs.Lists.{has, index, without, distinct}
 use Rattle.diagram.specs.Order.{isOrder, moved}
 use Rattle.diagram.proofs.Bools.{split, to-T}
@@ -80,12 +81,7 @@ other-take n l q j h =
 -- a list stored over the front of another, one element after the other
 pub over-more : (xs l : List ℕ) (i : ℕ) → i < length xs → i < length l
     → set (take i xs ++ drop i l) i (getD xs i 0) ≡ take (i + 1) xs ++ drop (i + 1) l
-over-more xs l i h k =
-    ap (λ (ys : List ℕ). set (take i xs ++ ys) i (getD xs i 0)) (drop-cons l i 0 k)
-    ∙ set-at (take i xs) (getD l i 0) (drop (suc i) l) (getD xs i 0) i (length-take-le i xs (omega arith))
-    ∙ sym (append-snoc (take i xs) (getD xs i 0) (drop (suc i) l))
-    ∙ ap (λ (ys : List ℕ). ys ++ drop (suc i) l) (sym (take-suc xs i 0 h))
-    ∙ ap (λ (m : ℕ). take m xs ++ drop m l) (sym (add-one i))
+over-more xs l i h k = rw (add-one i) (rw (zero-add i, zero-add (suc i)) at (paste-suc l 0 xs i 0 (omega arith) h))
 
 pub over-all : (xs l : List ℕ) (i : ℕ) → length xs ≤ i → take i xs ++ drop i l ≡ xs ++ drop i l
 over-all xs l i h = ap (λ (ys : List ℕ). ys ++ drop i l) (take-all i xs h)

@@ -16,7 +16,7 @@ use Rattle.diagram.proofs.Bools.{split}
 use Rattle.diagram.proofs.Lists.{eqb-equality, has-here}
 use Rattle.diagram.proofs.Numbers.{length-upTo}
 use Rattle.diagram.proofs.Most.{most-most}
-use Rattle.table.proofs.Filled.{getD-upTo}
+use Rattle.diagram.proofs.UpTo.{getD-upTo}
 use Rattle.sift.specs.declared.choice.Lead.{Lead}
 use Rattle.sift.specs.Choice.{overtaken}
 

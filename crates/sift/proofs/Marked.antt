@@ -8,25 +8,23 @@ use native.Mathlib.Nat.{le-trans}
 use native.Mathlib.Omega.{arith}
 use borrow.Author.Tests.{eqb-true}
 use lib.Dec.{eqb}
-use lib.ListN.{length, getD, set, length-set, length-map}
+use lib.ListN.{length, getD, set, length-set}
 use lib.Seq.{ext-getD, getD-set-same, getD-set-other}
 use Rattle.diagram.specs.Lists.{has, upTo}
 use Rattle.diagram.specs.Table.{Table}
 use Rattle.diagram.specs.Sift.{nodesOf, most, Pass, next}
 use Rattle.diagram.proofs.Bools.{split}
-use Rattle.diagram.proofs.Lists.{getD-map}
-use Rattle.diagram.proofs.Numbers.{differ, length-upTo, upTo-lt}
-use Rattle.table.proofs.Filled.{getD-upTo}
+use Rattle.diagram.proofs.Numbers.{differ, upTo-lt}
+use Rattle.diagram.proofs.UpTo.{length-map-upTo, getD-map-upTo}
+use Rattle.diagram.proofs.Lists.{eqb-equality, keep-cong}
 use Rattle.sift.specs.Choice.{nextOf}
 use Rattle.sift.specs.Turns.{marks}
-use Rattle.sift.proofs.Chosen.{keep-cong}
 
 pub length-marks : (done : List ℕ) → length (marks done) ≡ 10
-length-marks done = length-map (upTo 10) (λ v. has eqb v done) ∙ length-upTo 10
+length-marks done = length-map-upTo (λ v. has eqb v done) 10
 
 pub marks-at : (done : List ℕ) (v : ℕ) → v < 10 → getD (marks done) v false ≡ has eqb v done
-marks-at done v h =
-    getD-map (λ w. has eqb w done) (upTo 10) v 0 false (omega (arith, length-upTo 10)) ∙ ap (λ (w : ℕ). has eqb w done) (getD-upTo 10 v h)
+marks-at done v h = getD-map-upTo (λ w. has eqb w done) 10 v false h
 
 -- v is marked
 mark-at : (done : List ℕ) (v i : ℕ) → v < 10 → i < 10 → getD (set (marks done) v true) i false ≡ has eqb i (v ∷ done)
@@ -47,5 +45,5 @@ pub next-marked : (t : Table) (q : Pass) → t .n ≤ 10 → nextOf t (q .order)
 unfolding nextOf next
 next-marked t q k =
     ap (most (nodesOf t (q .order)))
-    (keep-cong (λ v. not (getD (marks (q .done)) v false)) (λ v. not (has eqb v (q .done))) (upTo (t .n))
+    (keep-cong eqb eqb-equality (λ v. not (getD (marks (q .done)) v false)) (λ v. not (has eqb v (q .done))) (upTo (t .n))
     (λ w h. ap not (marks-at (q .done) w (le-trans (upTo-lt w (t .n) h) k))))

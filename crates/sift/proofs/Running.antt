@@ -17,12 +17,13 @@ use Rattle.diagram.proofs.Order.{order-length}
 use Rattle.diagram.proofs.Pass.{afterTurns, after-suc, after-done, after-tried, after-going, Going, next-below, turns, allowed-only}
 use Rattle.table.specs.declared.State.{State}
 use Rattle.table.specs.State.{goodHeading, orderOf}
+use Rattle.table.proofs.Held.{heading-inputs, heading-order}
 use Rattle.fill.specs.Calls.{heldTable}
 use Rattle.sift.specs.declared.passes.Progress.{Progress}
 use Rattle.sift.specs.Calls.{passOf}
 use Rattle.sift.specs.Choice.{nextOf}
 use Rattle.sift.specs.Turns.{marks, progressOf, nextIn, turnOf}
-use Rattle.sift.proofs.Headings.{heading-inputs, heading-order, heading-with, take-order}
+use Rattle.sift.proofs.Headings.{heading-with, take-order}
 use Rattle.sift.proofs.Marked.{mark-more, next-marked}
 
 -- a turn of a pass that is held is the held turn of the pass

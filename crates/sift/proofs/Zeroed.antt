@@ -1,17 +1,19 @@
 -- A work buffer that is zero stays so however often it is zeroed, and it is as long as a call asks.
 -- Assumes nothing.
-use mathlib.Core.Path.{_≡_, sym, ap, _∙_, subst}
-use mathlib.Core.Bool.{true, _&&_}
+use mathlib.Core.Path.{_≡_, refl, sym, ap, _∙_, subst}
+use mathlib.Core.Bool.{_&&_}
 use mathlib.Core.List.{List, _++_}
 use Prim.Native.Nat.{ℕ, _≤_}
 use native.Mathlib.Omega.{arith}
 use lib.Dec.{T, leb, leb→le, le→leb}
-use lib.ListN.{length, drop, replicate, length-append, length-drop, length-replicate}
+use lib.ListN.{length, drop, replicate, length-append, length-replicate}
 use lib.Seq.{drop-at}
-use Rattle.diagram.proofs.Bools.{of-T, and-T, and-l, and-r}
+use Rattle.diagram.proofs.Bools.{and-T, and-l, and-r}
 use Rattle.table.specs.Calls.{planeSize}
 use Rattle.fill.specs.Work.{workSize, zeroWork, clearedWork}
 use Rattle.fill.specs.Calls.{enough}
+use Rattle.fill.proofs.Holding.{work-size, length-zero}
+use Rattle.fill.proofs.CallLaws.{cleared-zero as long-cleared}
 
 zero-zero : (work : List ℕ) → zeroWork (zeroWork work) ≡ zeroWork work
 unfolding zeroWork
@@ -37,15 +39,7 @@ long-enough values care work e =
     (and-r (leb planeSize (length values)) (leb planeSize (length care) && leb workSize (length work)) e))
 
 pub zero-length : (values care work : List ℕ) → T (enough values care work) → length (zeroWork work) ≡ length work
-unfolding zeroWork
-zero-length values care work e =
-    omega (
-      arith,
-      length-append (replicate workSize 0) (drop workSize work),
-      length-replicate {A = ℕ} workSize 0,
-      length-drop workSize work,
-      long-enough values care work e,
-    )
+zero-length values care work e = length-zero work (omega (arith, work-size, long-enough values care work e))
 
 -- one call after another
 
@@ -78,7 +72,5 @@ module _ (values care found : List ℕ) where
 
 -- a cleared work buffer that is as long as a call asks
 pub cleared-zero : (values care work : List ℕ) → T (enough values care work) → clearedWork work ≡ zeroWork work
-unfolding clearedWork
 cleared-zero values care work e =
-    let k : leb workSize (length work) ≡ true = of-T (le→leb workSize (length work) (long-enough values care work e)) in
-    rw k
+    sym (long-cleared work (zeroWork work) (omega (arith, work-size, long-enough values care work e)) refl)

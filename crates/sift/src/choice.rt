@@ -1,7 +1,7 @@
 // The variable that a pass sifts next: the unsifted one with the most nodes, the lowest on ties (document 01, section 5).
-use crate::order::place_of;
 use crate::trials::reorder;
 use table::State;
+use table::order::place_of;
 ghost use mathlib.Core.Path.{_≡_};
 ghost use Prim.Native.Nat.{_≤_};
 ghost use lib.Dec.{T};

@@ -1,27 +1,12 @@
-// Where a variable stands in an order, and the order with it moved to another level (document 01, section 5).
+// An order with a variable moved to another level (document 01, section 5).
+use table::order::place_of;
 ghost use mathlib.Core.Path.{_≡_};
 ghost use mathlib.Core.List.{_++_};
 ghost use Prim.Native.Nat.{_≤_, _<_};
-ghost use lib.Dec.{T, eqb};
+ghost use lib.Dec.{T};
 ghost use lib.ListN.{take, drop};
-ghost use Rattle.diagram.specs.Lists.{index};
 ghost use Rattle.diagram.specs.Order.{isOrder, moved};
 ghost use Rattle.sift.specs.Entries.{otherEntry, movedEntry};
-
-// The level of v among the first n, or n where it has none.
-pub(crate) fn place_of(order: [usize; 10], n: usize, v: usize) -> usize
-    requires { ⌜ n ≤ 10 ⌝ }
-    ensures { λ r. ⌜ r ≡ index eqb v (take n order) ⌝ }
-{
-    let mut i: usize = 0;
-    while i < n {
-        if v == order[i] {
-            return i;
-        }
-        i += 1;
-    }
-    i
-}
 
 // The j-th of the others, where one stands at level q.
 fn other(order: [usize; 10], q: usize, j: usize) -> usize

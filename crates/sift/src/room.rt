@@ -1,13 +1,11 @@
 // The lengths that the lent buffers need (document 01, section 2).
+use fill::WORK;
 use table::PLANE;
 ghost use mathlib.Core.Path.{_≡_};
 ghost use mathlib.Core.Bool.{_&&_};
 ghost use lib.Dec.{leb};
 ghost use Rattle.table.specs.Calls.{planeSize};
 ghost use Rattle.fill.specs.Work.{workSize};
-
-// The bytes of the work buffer that a call uses.
-const WORK: usize = 32768;
 
 // Whether values, care and work buffer of these lengths are enough.
 pub(crate) fn has_room(values: usize, care: usize, work: usize) -> bool

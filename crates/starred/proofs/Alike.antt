@@ -3,7 +3,7 @@
 -- Assumes nothing.
 use mathlib.Core.Path.{_≡_, refl, sym, ap, _∙_}
 use mathlib.Core.Bool.{Bool, true, false}
-use mathlib.Core.List.{List, map}
+use mathlib.Core.List.{List, map, map-map}
 use Prim.Native.Nat.{ℕ, zero, suc, _<_, _^_}
 use lib.ListN.{getD}
 use Rattle.diagram.specs.Lists.{upTo}
@@ -13,9 +13,8 @@ use Rattle.diagram.specs.Network.{network, count}
 use Rattle.diagram.specs.Order.{behind, rowUnder, moved}
 use Rattle.diagram.specs.Table.{Table, reordered, filled, filledBit, networkOf, cost}
 use Rattle.diagram.specs.Sift.{fewest, chosen, sift}
-use Rattle.diagram.proofs.Bits.{number-lt}
-use Rattle.fill.proofs.UpTo.{map-upTo-cong}
-use Rattle.fill.proofs.Fillings.{map-map}
+use Rattle.diagram.proofs.UpTo.{map-upTo-cong}
+use Rattle.diagram.proofs.Order.{behind-lt}
 use Rattle.fill.proofs.Masked.{mask, masked, fill-masked, draw-masked}
 
 -- a mask forgets a row's value where the row is free
@@ -23,10 +22,6 @@ pub record Alike (t u : Table) : Type 0 where
   pub inputs : t .n ≡ u .n
   pub outputs : t .m ≡ u .m
   pub rows : (j r : ℕ) → j < t .m → r < 2 ^ t .n → mask (t .row j r) ≡ mask (u .row j r)
-
-behind-lt : (n : ℕ) (order : List ℕ) (x : ℕ) → behind n order x < 2 ^ n
-unfolding behind
-behind-lt n order x = number-lt n _
 
 -- other rows for one n and m
 module _ (t : Table) (g : ℕ → ℕ → Row) (rows : (j r : ℕ) → j < t .m → r < 2 ^ t .n → mask (t .row j r) ≡ mask (g j r)) where

@@ -7,7 +7,6 @@ use Prim.Native.Nat.{ℕ, _*_, _<_}
 use borrow.Author.Tests.{lt-ltb}
 use lib.Dec.{T, leb}
 use lib.ListN.{length, getD, drop}
-use Rattle.diagram.specs.Order.{isOrder}
 use Rattle.diagram.specs.Table.{cost}
 use Rattle.diagram.proofs.Bools.{of-T, to-not}
 use Rattle.diagram.proofs.Sift.{sift-order}
@@ -15,12 +14,13 @@ use Rattle.table.specs.declared.Answer.the-variants.{Done, TooSmall}
 use Rattle.table.specs.declared.State.{State}
 use Rattle.table.specs.State.{orderOf, stageOf, isNothing}
 use Rattle.table.specs.Calls.{planeSize, over}
+use Rattle.table.proofs.Held.{ordered}
 use Rattle.fill.specs.Work.{workSize}
 use Rattle.fill.specs.Calls.{heldTable, enough, countAnswer}
 use Rattle.network.specs.Lent.{numbersOf, rootsSize}
 use Rattle.network.specs.Build.{heldNetwork, wanted, capacity, buildAnswer, buildOutcome, buildRoots, buildCells}
 use Rattle.sift.specs.Calls.{siftedOrder, siftAnswer, siftOutcome}
-use Rattle.sift.proofs.Headings.{held-heading, heading-order, take-order}
+use Rattle.sift.proofs.Headings.{take-order}
 
 -- the slices of `enough` and the roots, as a build tests them
 four : (a b c d : Bool) → T (a && (b && c)) → T d → (a && (b && (c && d))) ≡ true
@@ -46,15 +46,12 @@ module _ (s : State) (values care work : List ℕ) (long : T (enough values care
     unfolding siftOutcome
     sifted-answer = sift-answered
 
-    valid : T (isOrder (s .n) (orderOf s))
-    valid = heading-order (s .n) (s .m) (orderOf s) (held-heading s (to-not staged))
-
     pub sifted-order : orderOf (siftOutcome s v values care work .state) ≡ siftedOrder s v values care
     unfolding siftOutcome
     sifted-order =
         rw sift-answered
         (take-order (s .n) (siftedOrder s v values care) (s .order) (siftedOrder s v values care ++ drop (s .n) (s .order))
-        (sift-order (heldTable s values care) v (orderOf s) valid h) refl)
+        (sift-order (heldTable s values care) v (orderOf s) (ordered s (to-not staged)) h) refl)
 
   module _ (roots cells : List ℕ) (sixteen : T (leb rootsSize (length roots))) where
     -- by the board

@@ -1,29 +1,19 @@
 -- Where a state and lent bytes hold a table under an order, the table in the lent bytes is alike: its network, its filled rows, its cost and
 -- its sifts under the state's order are the table's under that order.
 -- Assumes nothing.
-use mathlib.Core.Path.{_≡_, refl, sym, ap, ap₂, _∙_}
-use mathlib.Core.Bool.{Bool, true, false, _&&_}
+use mathlib.Core.Path.{_≡_, sym, ap, _∙_}
+use mathlib.Core.Bool.{true}
 use mathlib.Core.List.{List}
 use Prim.Native.Nat.{ℕ, _+_, _*_, _^_}
-use lib.Dec.{T}
-use Rattle.diagram.specs.Fill.{Row}
 use Rattle.diagram.specs.Table.{Table, filledBit, networkOf, cost}
 use Rattle.diagram.specs.Sift.{sift}
 use Rattle.table.specs.declared.State.{State}
 use Rattle.table.specs.Stream.{streamBit}
 use Rattle.table.specs.State.{orderOf}
 use Rattle.fill.specs.Calls.{heldTable}
-use Rattle.fill.proofs.Masked.{mask}
+use Rattle.fill.proofs.Cares.{mask-alike}
 use Rattle.starred.specs.Shown.{Holds}
 use Rattle.starred.proofs.Alike.{Alike, cost-alike, network-alike, bit-alike, sift-alike}
-
-and-alike : (c v v′ : Bool) → (T c → v′ ≡ v) → (c && v) ≡ (c && v′)
-and-alike true v v′ h = sym (h tt)
-and-alike false v v′ h = refl
-
-mask-alike : (r : Row) (c v : Bool) → c ≡ r .care → (T (r .care) → v ≡ r .value) → mask r ≡ mask (record { value = v; care = c })
-mask-alike r c v e h =
-    ap₂ (λ (b d : Bool). record { value = b; care = d }) (and-alike (r .care) (r .value) v h ∙ ap (λ (b : Bool). b && v) (sym e)) (sym e)
 
 module _ {t : Table} {order : List ℕ} {s : State} {values care : List ℕ} (h : Holds t order s values care) where
   alike : Alike t (heldTable s values care)
@@ -31,7 +21,8 @@ module _ {t : Table} {order : List ℕ} {s : State} {values care : List ℕ} (h 
     inputs = sym (h .inputs);
     outputs = sym (h .outputs);
     rows = λ j r p q. rw (h .inputs)
-        (mask-alike (t .row j r) (streamBit care (j * 2 ^ t .n + r)) (streamBit values (j * 2 ^ t .n + r)) (h .cared j r p q) (h .valued j r p q));
+        (mask-alike (t .row j r .care) (streamBit care (j * 2 ^ t .n + r)) (t .row j r .value) (streamBit values (j * 2 ^ t .n + r))
+        (sym (h .cared j r p q)) (λ c. sym (h .valued j r p q c)));
   }
 
   pub held-cost : cost (heldTable s values care) (orderOf s) ≡ cost t order

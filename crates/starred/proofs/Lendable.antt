@@ -25,10 +25,9 @@ use Rattle.table.specs.declared.State.{State}
 use Rattle.table.specs.Stream.{streamBit}
 use Rattle.table.specs.State.{goodHeading, orderOf, stageOf, isNothing}
 use Rattle.table.specs.Calls.{planeSize}
-use Rattle.table.proofs.Held.{stage-good, few-bits}
+use Rattle.table.proofs.Held.{stage-good, few-bits, heading-inputs, heading-order}
 use Rattle.fill.specs.Work.{workSize}
 use Rattle.fill.specs.Calls.{enough}
-use Rattle.sift.proofs.Headings.{heading-inputs, heading-order}
 use Rattle.starred.specs.Lendable.{Lendable, Applies}
 use Rattle.starred.proofs.Planes.{plane, plane-length, plane-bit, plane-bytes, zeros, zeros-length, zeros-bytes}
 

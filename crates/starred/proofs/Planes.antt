@@ -10,9 +10,9 @@ use lib.ListN.{length, replicate, length-replicate}
 use Rattle.diagram.specs.Lists.{upTo, number, bit}
 use Rattle.diagram.proofs.Bools.{and-T}
 use Rattle.diagram.proofs.Bits.{number-lt, bit-number}
+use Rattle.diagram.proofs.UpTo.{getD-map-upTo, length-map-upTo}
 use Rattle.table.specs.Stream.{streamBit}
 use Rattle.table.specs.Calls.{planeSize}
-use Rattle.fill.proofs.UpTo.{getD-upTo, length-map-upTo}
 use Rattle.starred.specs.Lendable.{isBytes}
 
 -- byte k: its highest bit is bit 8k + 7 of the stream
@@ -30,7 +30,7 @@ unfolding streamBit bit planeSize
 plane-bit f i h =
     let e : i % 8 ≡ 8 - suc (7 - i % 8) = omega arith in
     let k : 8 * (i / 8) + (7 - (7 - i % 8)) ≡ i = omega arith in
-    ap (λ (x : ℕ). eqb (x / 2 ^ (i % 8) % 2) 1) (getD-upTo (byteOf f) planeSize (i / 8) 0 (omega arith))
+    ap (λ (x : ℕ). eqb (x / 2 ^ (i % 8) % 2) 1) (getD-map-upTo (byteOf f) planeSize (i / 8) 0 (omega arith))
     ∙ ap (λ (q : ℕ). eqb (byteOf f (i / 8) / 2 ^ q % 2) 1) e
     ∙ bit-number 8 (λ v. f (8 * (i / 8) + (7 - v))) (7 - i % 8) (omega arith)
     ∙ ap f k

@@ -16,9 +16,9 @@ use Rattle.diagram.specs.Starred.{Claim, builds, costs, sifts, fits, holds, equ
 use Rattle.diagram.proofs.Bools.{and-l, and-r, beq→eq}
 use Rattle.diagram.proofs.Lists.{all-at}
 use Rattle.diagram.proofs.Starred.{starred-hold}
+use Rattle.diagram.proofs.UpTo.{getD-map-upTo}
 use Rattle.table.specs.declared.Answer.the-variants.{Done, TooSmall}
 use Rattle.table.specs.Calls.{over}
-use Rattle.fill.proofs.UpTo.{getD-upTo}
 use Rattle.network.specs.Lent.{numbersOf, rootsSize}
 use Rattle.network.specs.Build.{capacity, heldNetwork, wanted}
 use Rattle.starred.specs.Shown.{Shown}
@@ -31,8 +31,8 @@ listed : (t : Table) (order : List ℕ) (rows : List (List Bool)) → filledRows
 listed t order rows e j r p q =
     sym
     (ap (λ (xs : List (List Bool)). getD (getD xs j []) r false) (sym e)
-    ∙ ap (λ (xs : List Bool). getD xs r false) (getD-upTo (λ k. map (filledBit true t order k) (upTo (2 ^ t .n))) (t .m) j [] p)
-    ∙ getD-upTo (filledBit true t order j) (2 ^ t .n) r false q)
+    ∙ ap (λ (xs : List Bool). getD xs r false) (getD-map-upTo (λ k. map (filledBit true t order k) (upTo (2 ^ t .n))) (t .m) j [] p)
+    ∙ getD-map-upTo (filledBit true t order j) (2 ^ t .n) r false q)
 
 -- an order's cost is the length of its network's list
 cost-length : (t : Table) (order : List ℕ) → cost t order ≡ length (networkOf true t order .nodes)

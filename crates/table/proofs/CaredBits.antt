@@ -4,14 +4,15 @@ use mathlib.Core.Path.{_≡_, sym, ap, _∙_, subst}
 use mathlib.Core.Bool.{true, false, not}
 use mathlib.Core.List.{List}
 use Prim.Native.Nat.{ℕ, _+_, _*_, _-_, _%_, _^_, _≤_, _<_, min}
-use native.Mathlib.Nat.{le-trans, one-mul, mod-lt, mod-eq-of-lt}
+use native.Mathlib.Nat.{le-trans, mod-lt, mod-eq-of-lt}
 use native.Mathlib.Omega.{arith}
 use borrow.Author.Tests.{le-leb, lt-leb}
 use lib.Bits.{bitAnd, and-mask}
 use lib.Count.{ones, ones-le}
-use lib.Pow.{pow-pos, pow-lt}
+use lib.Pow.{pow-pos}
 use lib.ListN.{length, getD}
 use Rattle.diagram.specs.Lists.{digit}
+use Rattle.diagram.proofs.Bits.{one-shifted}
 use Rattle.table.specs.declared.State.{State}
 use Rattle.table.specs.declared.Answer.the-variants.{Done, ShortBuffer, NoTable}
 use Rattle.table.specs.Stream.{streamBit, sum, wordOf, caredBits}
@@ -20,11 +21,8 @@ use Rattle.table.specs.Calls.{planeSize, caredAnswer}
 use Rattle.table.proofs.Words.{wordOf-lt, count-low}
 
 -- the mask of the lowest k bits of a word
-pub mask-shift : (k : ℕ) → k < 64 → 1 * 2 ^ k % 2 ^ 64 ≡ 2 ^ k
-mask-shift k h = ap (λ (x : ℕ). x % 2 ^ 64) (one-mul (2 ^ k)) ∙ mod-eq-of-lt (pow-lt h)
-
 pub mask-some : (k : ℕ) → k < 64 → 1 ≤ 1 * 2 ^ k % 2 ^ 64
-mask-some k h = subst (λ (x : ℕ). 1 ≤ x) (sym (mask-shift k h)) (pow-pos k)
+mask-some k h = subst (λ (x : ℕ). 1 ≤ x) (sym (one-shifted k h)) (pow-pos k)
 
 -- what a word adds: of the bits from 64 × w on, so many as are left of the stream
 abbrev pub Counted : List ℕ → ℕ → ℕ → ℕ → Type 0
@@ -44,7 +42,7 @@ module _ (bytes : List ℕ) (small : (i : ℕ) → getD bytes i 0 < 256) (w bits
   pub count-part : bits - 64 * w < 64 → Counted bytes w bits (ones (bitAnd x (1 * 2 ^ (bits - 64 * w) % 2 ^ 64 - 1)))
   count-part h =
       counted (bits - 64 * w) (omega arith) (omega arith) (bitAnd x (1 * 2 ^ (bits - 64 * w) % 2 ^ 64 - 1))
-      (ap (λ (z : ℕ). bitAnd x (z - 1)) (mask-shift (bits - 64 * w) h) ∙ and-mask x (bits - 64 * w))
+      (ap (λ (z : ℕ). bitAnd x (z - 1)) (one-shifted (bits - 64 * w) h) ∙ and-mask x (bits - 64 * w))
 
 pub bits-fit : (m n : ℕ) → m * 2 ^ n ≤ 16384 → m * 2 ^ n % 2 ^ 64 ≤ 16384
 bits-fit m n h = let l : m * 2 ^ n < 2 ^ 64 = omega arith in rw (mod-eq-of-lt l) h

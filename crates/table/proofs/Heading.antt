@@ -11,8 +11,8 @@ use lib.ListN.{length, take}
 use Rattle.diagram.specs.Lists.{all, upTo}
 use Rattle.diagram.specs.Bound.{mostVariables, mostOutputs}
 use Rattle.diagram.specs.Order.{isOrder}
+use Rattle.diagram.proofs.UpTo.{take-map-upTo, map-upTo-cong}
 use Rattle.table.specs.File.{byte, inputsOf, outputsOf, fileOrder, goodRest}
-use Rattle.table.proofs.Over.{take-listed, listed-same}
 
 pub second-false : (a : Bool) {b : Bool} → b ≡ false → a && b ≡ false
 second-false true e = e
@@ -21,7 +21,7 @@ second-false false e = refl
 -- the first n of a list that has zeros past n
 pub first-listed : (f : ℕ → ℕ) (n k : ℕ) → n ≤ k → take n (map (λ p. cond (ltb p n) (f p) 0) (upTo k)) ≡ map f (upTo n)
 first-listed f n k h =
-    take-listed (λ p. cond (ltb p n) (f p) 0) n k h ∙ listed-same (λ p. cond (ltb p n) (f p) 0) f n (λ i l. rw (lt-ltb i n l))
+    take-map-upTo (λ p. cond (ltb p n) (f p) 0) n k h ∙ map-upTo-cong n (λ p. cond (ltb p n) (f p) 0) f (λ i l. rw (lt-ltb i n l))
 
 module _ (file : List ℕ) where
   -- the file's length

@@ -1,14 +1,12 @@
 -- When a state is valid: the heading's rules tested one after the other, and what a state that holds a table keeps.
 -- Assumes nothing.
-use mathlib.Core.Path.{_≡_, refl}
-use mathlib.Core.Bool.{Bool, true, false, not, _&&_}
+use mathlib.Core.Path.{_≡_}
+use mathlib.Core.Bool.{true, false, not, _&&_, and-false}
 use mathlib.Core.List.{List}
 use Prim.Native.Nat.{ℕ, _*_, _^_, _≤_, _<_}
-use native.Mathlib.Nat.{le-trans, mul-le-mul-left, mul-le-mul-right}
 use native.Mathlib.Omega.{arith}
 use borrow.Author.Tests.{le-leb, lt-leb}
 use lib.Dec.{T, leb, leb→le}
-use lib.Pow.{pow-mono}
 use lib.ListN.{length, length-take}
 use Rattle.diagram.specs.Bound.{mostVariables, mostOutputs}
 use Rattle.diagram.specs.Order.{isOrder}
@@ -17,12 +15,9 @@ use Rattle.diagram.proofs.Order.{order-length}
 use Rattle.table.specs.declared.State.{State}
 use Rattle.table.specs.declared.Stage.the-variants.{Nothing}
 use Rattle.table.specs.State.{goodHeading, orderOf, stageOf, isNothing}
+use Rattle.table.proofs.Answers.{stream-small}
 
 -- the first rule that is broken, or the order's
-
-and-false : (a : Bool) → a && false ≡ false
-and-false true = refl
-and-false false = refl
 
 pub many-inputs : (n m : ℕ) (order : List ℕ) → 10 < n → goodHeading n m order ≡ false
 unfolding goodHeading mostVariables
@@ -50,36 +45,46 @@ pub stage-good : (s : State) → goodHeading (s .n) (s .m) (orderOf s) ≡ true 
 unfolding stageOf
 stage-good s e = rw e
 
+-- what a heading that keeps the rules has
+
+module _ (n m : ℕ) (order : List ℕ) (g : T (goodHeading n m order)) where
+  pub heading-inputs : n ≤ 10
+  unfolding goodHeading mostVariables
+  heading-inputs = leb→le n 10 (and-l (leb n 10) _ g)
+
+  pub heading-outputs : T (leb 1 m && leb m mostOutputs)
+  unfolding goodHeading
+  heading-outputs = and-l (leb 1 m && leb m mostOutputs) (isOrder n order) (and-r (leb n mostVariables) _ g)
+
+  pub heading-order : T (isOrder n order)
+  unfolding goodHeading
+  heading-order = and-r (leb 1 m && leb m mostOutputs) (isOrder n order) (and-r (leb n mostVariables) _ g)
+
 -- what a state that holds a table keeps
 
 module _ (s : State) (held : T (not (isNothing (stageOf s)))) where
-  heading : T (goodHeading (s .n) (s .m) (orderOf s))
-  heading =
+  pub held-heading : T (goodHeading (s .n) (s .m) (orderOf s))
+  held-heading =
       split (goodHeading (s .n) (s .m) (orderOf s)) (λ e. to-T e) (λ e. absurd (rw (stage-bad s e) at held))
 
   pub few-inputs : s .n ≤ 10
-  unfolding goodHeading mostVariables
-  few-inputs = leb→le (s .n) 10 (and-l (leb (s .n) 10) _ heading)
+  few-inputs = heading-inputs (s .n) (s .m) (orderOf s) held-heading
 
-  outputs : T ((leb 1 (s .m) && leb (s .m) 16) && isOrder (s .n) (orderOf s))
-  unfolding goodHeading mostVariables mostOutputs
-  outputs = and-r (leb (s .n) 10) _ heading
-
-  in-range : T (leb 1 (s .m) && leb (s .m) 16)
-  in-range = and-l (leb 1 (s .m) && leb (s .m) 16) (isOrder (s .n) (orderOf s)) outputs
+  in-range : T (leb 1 (s .m) && leb (s .m) mostOutputs)
+  in-range = heading-outputs (s .n) (s .m) (orderOf s) held-heading
 
   pub some-outputs : 1 ≤ s .m
-  some-outputs = leb→le 1 (s .m) (and-l (leb 1 (s .m)) (leb (s .m) 16) in-range)
+  some-outputs = leb→le 1 (s .m) (and-l (leb 1 (s .m)) (leb (s .m) mostOutputs) in-range)
 
   pub few-outputs : s .m ≤ 16
+  unfolding mostOutputs
   few-outputs = leb→le (s .m) 16 (and-r (leb 1 (s .m)) (leb (s .m) 16) in-range)
 
   pub ordered : T (isOrder (s .n) (orderOf s))
-  ordered = and-r (leb 1 (s .m) && leb (s .m) 16) _ outputs
+  ordered = heading-order (s .n) (s .m) (orderOf s) held-heading
 
   pub inputs-fit : s .n ≤ length (s .order)
   inputs-fit = omega (arith, order-length (s .n) (orderOf s) ordered, length-take (s .n) (s .order))
 
   pub few-bits : s .m * 2 ^ s .n ≤ 16384
-  few-bits =
-      le-trans (mul-le-mul-left (s .m) (pow-mono few-inputs)) (mul-le-mul-right (2 ^ 10) few-outputs)
+  few-bits = stream-small (s .n) (s .m) few-inputs few-outputs

@@ -11,7 +11,6 @@ use lib.Dec.{T, eqb, ltb, leb, le→leb}
 use Rattle.diagram.specs.Bound.{mostVariables, mostOutputs}
 use Rattle.diagram.specs.Order.{isOrder}
 use Rattle.diagram.proofs.Bools.{split, of-T, and-T}
-use Rattle.table.specs.declared.State.{State}
 use Rattle.table.specs.declared.Stage.the-variants.{Table as AtTable}
 use Rattle.table.specs.Answer.{done}
 use Rattle.table.specs.Stream.{streamBit}
@@ -23,6 +22,7 @@ use Rattle.table.proofs.Heading.{first-listed}
 use Rattle.table.proofs.Tail.{spare-bit}
 use Rattle.table.proofs.Answers.{stream-small}
 use Rattle.table.proofs.Accepted.{Accepted, accepted}
+use Rattle.table.proofs.Held.{stage-good}
 
 -- the state
 
@@ -31,10 +31,6 @@ unfolding goodHeading mostVariables mostOutputs
 heading-kept n m order h g k o =
     and-T (leb n 10) (leb 1 m && leb m 16 && isOrder n order) (le→leb n 10 h)
     (and-T (leb 1 m && leb m 16) (isOrder n order) (and-T (leb 1 m) (leb m 16) (le→leb 1 m g) (le→leb m 16 k)) o)
-
-pub stage-kept : (s : State) → T (goodHeading (s .n) (s .m) (orderOf s)) → stageOf s ≡ s .stage
-unfolding stageOf
-stage-kept s t = let e : goodHeading (s .n) (s .m) (orderOf s) ≡ true = of-T t in rw e
 
 module _ (file : List ℕ) (t : T (done (fileAnswer file))) where
   pub loaded-order : orderOf (loadedState file) ≡ fileOrder file
@@ -47,7 +43,7 @@ module _ (file : List ℕ) (t : T (done (fileAnswer file))) where
       (subst (λ (l : List ℕ). T (isOrder (inputsOf file) l)) (sym loaded-order) (a .order))
 
   pub loaded-stage : stageOf (loadedState file) ≡ AtTable
-  loaded-stage = stage-kept (loadedState file) loaded-heading
+  loaded-stage = stage-good (loadedState file) (of-T loaded-heading)
 
   pub holds-table : isNothing (stageOf (loadedState file)) ≡ false
   holds-table = ap isNothing loaded-stage

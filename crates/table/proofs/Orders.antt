@@ -1,7 +1,7 @@
 -- An order tested one entry at a time: what is left of it from level i on.
 -- Assumes nothing.
-use mathlib.Core.Path.{_≡_, refl, ap, _∙_}
-use mathlib.Core.Bool.{Bool, true, false, _&&_}
+use mathlib.Core.Path.{_≡_, ap, _∙_}
+use mathlib.Core.Bool.{Bool, true, false, _&&_, and-false}
 use mathlib.Core.List.{List, [], _∷_}
 use Prim.Native.Nat.{ℕ, suc, _+_, _≤_, _<_}
 use native.Mathlib.Numerals.{add-one}
@@ -44,10 +44,6 @@ pub order-fine : (n : ℕ) (l : List ℕ) → n ≤ length l → isOrder n (take
 unfolding isOrder fine
 order-fine n l k = rw (eq-eqb (length (take n l)) n (length-take-le n l k))
 
-and-false : (a b : Bool) → a && (false && b) ≡ false
-and-false true b = refl
-and-false false b = refl
-
 pub fine-high : (l : List ℕ) (n i : ℕ) → n ≤ length l → i < n → n ≤ getD l i 0 → fine n (rest l n i) ≡ false
 unfolding fine
 fine-high l n i k h g = rw (rest-cons l n i k h, le-ltb (getD l i 0) n g)
@@ -56,7 +52,7 @@ pub fine-again : (l : List ℕ) (n i : ℕ) → n ≤ length l → i < n → has
     → fine n (rest l n i) ≡ false
 unfolding fine
 fine-again l n i k h e =
-    rw (rest-cons l n i k h, e) (and-false (ltb (getD l i 0) n && all (λ v. ltb v n) (rest l n (suc i))) (distinct eqb (rest l n (suc i))))
+    rw (rest-cons l n i k h, e) (and-false (ltb (getD l i 0) n && all (λ v. ltb v n) (rest l n (suc i))))
 
 pub fine-next : (l : List ℕ) (n i : ℕ) → n ≤ length l → i < n → getD l i 0 < n → has eqb (getD l i 0) (rest l n (suc i)) ≡ false
     → fine n (rest l n i) ≡ fine n (rest l n (i + 1))

@@ -7,13 +7,14 @@ use native.Mathlib.Nat.{add-comm, mod-lt, mul-le-mul-right, mod-one}
 use native.Mathlib.Numerals.{add-one}
 use native.Mathlib.Omega.{arith}
 use borrow.Author.Tests.{ltb-true, ltb-false}
-use lib.Dec.{eqb, ltb}
+use lib.Dec.{ltb}
 use lib.Bits.{bitOr, or-shifted-r}
 use lib.Count.{ones, onesIn, ones-cat}
 use lib.Pow.{pow-pos, pow-add, mod-pow-add, field, mod-mod-pow, low, high, shr-shr, shl-exact}
 use lib.ListN.{getD}
 use Rattle.diagram.specs.Lists.{digit}
 use Rattle.diagram.proofs.Bools.{split}
+use Rattle.diagram.proofs.Bits.{digit-eqb}
 use Rattle.table.specs.Stream.{streamBit, sum, wordOf}
 use Rattle.table.proofs.Sums.{sum-cong}
 
@@ -36,11 +37,6 @@ ones-sum n (suc k) =
     let e : suc k ≡ 1 + k = omega arith in
     ap (λ (j : ℕ). ones (n % 2 ^ j)) e ∙ ap ones (mod-pow-add n 1 k) ∙ ones-cat k (n / 2 ^ k % 2) (n % 2 ^ k) (mod-lt n (pow-pos k))
     ∙ ap₂ (λ (x y : ℕ). x + y) (ones-bit (n / 2 ^ k % 2) (omega arith)) (ones-sum n k) ∙ add-comm (n / 2 ^ k % 2) (sum (λ i. n / 2 ^ i % 2) k)
-
-digit-odd : (y : ℕ) → y < 2 → y ≡ digit (eqb y 1)
-digit-odd zero h = refl
-digit-odd (suc zero) h = refl
-digit-odd (suc (suc y)) h = absurd (omega arith)
 
 -- one byte more on top of k
 
@@ -94,7 +90,7 @@ module _ (bytes : List ℕ) (small : (i : ℕ) → getD bytes i 0 < 256) where
       let d : 8 * w + i / 8 ≡ (64 * w + i) / 8 = omega arith in
       let e : i % 8 ≡ (64 * w + i) % 8 = omega arith in
       word-bit (8 * w) 8 i h ∙ ap₂ (λ (j k : ℕ). getD bytes j 0 / 2 ^ k % 2) d e
-      ∙ digit-odd (getD bytes ((64 * w + i) / 8) 0 / 2 ^ ((64 * w + i) % 8) % 2) (omega arith)
+      ∙ sym (digit-eqb (getD bytes ((64 * w + i) / 8) 0 / 2 ^ ((64 * w + i) % 8) % 2) (omega arith))
 
   -- the lowest k bits of the word at byte 8 × w
   pub count-low : (w k : ℕ) → k ≤ 64 → ones (wordOf bytes (8 * w) 8 % 2 ^ k) ≡ sum (λ i. digit (streamBit bytes (64 * w + i))) k

@@ -3,7 +3,7 @@ pub mod bits;
 mod block;
 pub mod cared;
 pub mod load;
-mod order;
+pub mod order;
 pub mod swap;
 pub mod valid;
 

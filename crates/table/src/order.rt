@@ -1,4 +1,5 @@
 // Orders of the variables: the variable at each level, the top level first (document 01, sections 1 and 2).
+use crate::VARIABLES;
 use crate::block::block_byte;
 ghost use mathlib.Core.Path.{_≡_};
 ghost use mathlib.Core.Bool.{cond};
@@ -6,7 +7,7 @@ ghost use mathlib.Core.List.{map};
 ghost use Prim.Native.Nat.{ℕ, suc, _+_, _≤_, _<_};
 ghost use lib.Dec.{eqb, ltb};
 ghost use lib.ListN.{getD, take, drop};
-ghost use Rattle.diagram.specs.Lists.{has, upTo};
+ghost use Rattle.diagram.specs.Lists.{has, index, upTo};
 ghost use Rattle.diagram.specs.Order.{isOrder};
 ghost use Rattle.table.specs.File.{byte};
 
@@ -56,4 +57,29 @@ pub(crate) fn read_order(file: &[u8], n: usize) -> [usize; 10]
         p += 1;
     }
     order
+}
+
+// The level of v among the first n, or n where it has none.
+fn place_among(order: [usize; 10], n: usize, v: usize) -> usize
+    requires { ⌜ n ≤ 10 ⌝ }
+    ensures { λ r. ⌜ r ≡ index eqb v (take n order) ⌝ }
+{
+    let mut i: usize = 0;
+    while i < n {
+        if v == order[i] {
+            return i;
+        }
+        i += 1;
+    }
+    i
+}
+
+// The level of v in an order of n variables, or the order's length where it has none.
+pub fn place_of(order: [usize; 10], n: usize, v: usize) -> usize
+    ensures { λ r. ⌜ r ≡ index eqb v (take n order) ⌝ }
+{
+    if VARIABLES < n {
+        return place_among(order, VARIABLES, v);
+    }
+    place_among(order, n, v)
 }

@@ -15,7 +15,7 @@ shr-result : tie.Need-shr-result
 shr-result c = search needs
 
 returns : tie.Need-returns
-returns c = bit-masked (c .args .n) (c .args .p) (c .args .s) (c .pre .0)
+returns c = bit-masked (c .args .n) (c .args .p) (c .args .s)
 
 pub bit-of-spec : {M : Type 1} → statement M
 bit-of-spec = tie.close (tie.spec sub-result sub-result-2 shr-result returns)

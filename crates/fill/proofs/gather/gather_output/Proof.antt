@@ -7,9 +7,9 @@ use mathlib.Core.List.{List, _++_}
 use Prim.Native.Nat.{ℕ, _+_, _*_, _%_, _^_}
 use native.Mathlib.Omega.{arith}
 use lib.ListN.{length, drop}
+use Rattle.diagram.proofs.UpTo.{length-map-upTo}
 use Rattle.fill.specs.Pack.{width}
 use Rattle.fill.specs.Gather.{gatheredPlane}
-use Rattle.fill.proofs.UpTo.{length-map-upTo}
 use Rattle.fill.proofs.Overwritten.{both-written}
 use Rattle.fill.proofs.Shifts.{rows-room, width-room, base-room, base-shifted}
 use Rattle.fill.proofs.gather.gather_output.Statement.{statement}

@@ -7,13 +7,13 @@ use native.Mathlib.Omega.{arith}
 use lib.Dec.{eqb}
 use lib.ListN.{take}
 use Rattle.diagram.specs.Lists.{index}
+use Rattle.table.proofs.Filled.{filled, filled-more}
 use Rattle.fill.specs.Gather.{placesOf}
-use Rattle.fill.proofs.Places.{counted, counted-more}
 use Rattle.fill.proofs.gather.places.Statement.{statement}
 use Rattle.fill.proofs.gather.places.Tie as tie
 
 abbrev Inv-loop : tie.InvT-loop
-Inv-loop order n places₀ v₀ places v = (v ≤ n) × (places ≡ counted (λ w. index eqb w (take n order)) 10 v)
+Inv-loop order n places₀ v₀ places v = (v ≤ n) × (places ≡ filled (λ w. index eqb w (take n order)) 10 v)
 
 abbrev μ-loop : tie.MeasureT-loop
 μ-loop order n places₀ v₀ places v = n - v
@@ -41,7 +41,7 @@ loop-again c =
     let a = c .before .before .before .args in
     let l = c .before .before .loop in (
       search needs,
-      counted-more (λ w. index eqb w (take (a .n) (a .order))) 10 (l .v) (c .place-of .result) (l .places) (omega arith) (l .inv .1)
+      filled-more (λ w. index eqb w (take (a .n) (a .order))) 10 (l .v) (omega arith) (l .places) (c .place-of .result) (l .inv .1)
           (c .place-of .ensures),
     )
 
@@ -51,7 +51,7 @@ returns c =
     let a = c .before .before .args in
     let l = c .before .loop in
     let e : l .v ≡ a .n = omega arith in
-    l .inv .1 ∙ ap (counted (λ w. index eqb w (take (a .n) (a .order))) 10) e
+    l .inv .1 ∙ ap (filled (λ w. index eqb w (take (a .n) (a .order))) 10) e
 
 pub places-spec : {M : Type 1} → statement M
 places-spec =

@@ -6,10 +6,11 @@ use mathlib.Core.Path.{_≡_, refl, ap, _∙_}
 use Prim.Native.Nat.{_≤_, _-_, _^_}
 use native.Mathlib.Omega.{arith}
 use lib.ListN.{length, length-set}
+use Rattle.diagram.proofs.Bits.{one-shifted}
 use Rattle.table.specs.Calls.{over}
+use Rattle.table.proofs.Over.{over-next}
 use Rattle.fill.specs.Gather.{rowOf}
-use Rattle.fill.proofs.Overwritten.{over-more}
-use Rattle.fill.proofs.Shifts.{rows-room, one-shifted}
+use Rattle.fill.proofs.Shifts.{rows-room}
 use Rattle.fill.proofs.gather.rows.Statement.{statement}
 use Rattle.fill.proofs.gather.rows.Tie as tie
 
@@ -24,7 +25,7 @@ shl-count : tie.Need-shl-count Inv-loop μ-loop
 shl-count c = search needs
 
 loop-holds : tie.Need-loop-holds Inv-loop μ-loop
-loop-holds c = (one-shifted (c .before .args .n) (c .before .pre .0), search needs, refl, refl)
+loop-holds c = (one-shifted (c .before .args .n) (omega (arith, c .before .pre .0)), search needs, refl, refl)
 
 row-behind-requires : tie.Need-row-behind-requires Inv-loop μ-loop
 row-behind-requires c κs = let p = c .before .before .before .pre in (p .0, p .1)
@@ -52,7 +53,7 @@ loop-again c =
       l .inv .0,
       omega arith,
       length-set (l .map) (l .s) (c .row-behind .result) ∙ l .inv .2,
-      over-more (rowOf (a .n) (a .places)) (l .s) (c .row-behind .result) (now (a .map)) (l .map)
+      over-next (rowOf (a .n) (a .places)) (now (a .map)) (l .map) (l .s) (c .row-behind .result)
           (omega (arith, rows-room (a .n) (s .pre .0))) (l .inv .3) (c .row-behind .ensures .0),
     )
 

@@ -2,15 +2,16 @@
 use borrow.Author.Needs.{needs}
 use native.Mathlib.Omega.{arith}
 use lib.ListN.{length, length-set}
-use Rattle.fill.proofs.Halved.{width-one, width-small, bits-taken}
+use Rattle.fill.proofs.Halved.{bits-taken}
+use Rattle.fill.proofs.PackLaws.{width-small}
 use mathlib.Core.Path.{_≡_}
-use Prim.Native.Nat.{_≤_}
+use Prim.Native.Nat.{suc, _≤_}
 use Rattle.fill.proofs.halves.take_bits.Statement.{statement}
 use Rattle.fill.proofs.halves.take_bits.Tie as tie
 
 -- the part has two bytes, and cand as many at the least
 widths : (s : tie.Start) → (length (s .args .part .now) ≡ 2) × (2 ≤ length (s .args .cand .now))
-widths s = omega (arith, width-one (s .args .d) (s .pre .0), width-small (s .args .d) (omega (arith, s .pre .0)))
+widths s = omega (arith, width-small (suc (s .args .d)) (s .pre .0), width-small (s .args .d) (omega (arith, s .pre .0)))
 
 shared-slice-read-half-byte : tie.Need-shared-slice-read-half-byte
 shared-slice-read-half-byte c = omega (arith, widths (c .before .before .before))

@@ -1,7 +1,8 @@
 -- `fill::halves::width_of` meets its contract: from three variables on a width is a power of two. Assumes nothing.
 use borrow.Author.Needs.{needs}
 use mathlib.Core.Path.{sym}
-use Rattle.fill.proofs.Halved.{width-small, width-shift}
+use Rattle.fill.proofs.PackLaws.{width-small}
+use Rattle.fill.proofs.Shifts.{width-shifted}
 use Rattle.fill.proofs.halves.width_of.Statement.{statement}
 use Rattle.fill.proofs.halves.width_of.Tie as tie
 
@@ -12,7 +13,7 @@ shl-result : tie.Need-shl-result
 shl-result c = search needs
 
 returns-2 : tie.Need-returns-2
-returns-2 c = width-shift (c .before .args .d) (c .if1 .left) (c .before .pre)
+returns-2 c = width-shifted (c .before .args .d) (c .if1 .left) (c .before .pre)
 
 pub width-of-spec : {M : Type 1} → statement M
 width-of-spec = tie.close (tie.spec returns shl-result returns-2)

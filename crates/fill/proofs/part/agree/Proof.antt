@@ -2,14 +2,15 @@
 -- Assumes nothing.
 use borrow.Author.Needs.{needs}
 use borrow.Author.Tests.{not-true, not-false}
-use mathlib.Core.Path.{_≡_, refl, sym, _∙_}
+use mathlib.Core.Path.{_≡_, refl, sym, ap, _∙_}
 use mathlib.Core.Bool.{Bool, true}
 use mathlib.Core.List.{List}
 use Prim.Native.Nat.{ℕ, _-_, _≤_, zero-le}
+use native.Mathlib.Nat.{le-antisymm}
 use Rattle.diagram.specs.Lists.{all, upTo}
+use Rattle.diagram.proofs.Numbers.{all-upTo-more, all-upTo-fails}
 use Rattle.fill.specs.Bytes.{agreeByte}
 use Rattle.fill.specs.Parts.{valueByte, careByte, agreePart}
-use Rattle.fill.proofs.Counted.{all-more, all-fails, all-done}
 use Rattle.fill.proofs.part.agree.Statement.{statement}
 use Rattle.fill.proofs.part.agree.Tie as tie
 
@@ -52,8 +53,8 @@ unfolding agreePart
 returns c =
     let l = c .before .before .before .before .before .before .before in
     let a = l .before .before .before .args in
-    all-fails (test (a .i) (a .w) (a .f .now) (a .g .now)) (a .w) (l .loop .j) (search needs)
-    (sym (c .before .agree-byte .ensures) ∙ not-true (c .before .agree-byte .result) (c .if1 .taken))
+    sym (all-upTo-fails (test (a .i) (a .w) (a .f .now) (a .g .now)) (a .w) (l .loop .j) (search needs)
+    (sym (c .before .agree-byte .ensures) ∙ not-true (c .before .agree-byte .result) (c .if1 .taken)))
 
 add-j : tie.Need-add-j Inv-loop μ-loop
 add-j c = search needs
@@ -66,7 +67,7 @@ loop-again c =
     let l = c .before .before .before .before .before .before .before in
     let a = l .before .before .before .args in (
       search needs,
-      all-more (test (a .i) (a .w) (a .f .now) (a .g .now)) (l .loop .j) (l .loop .inv .1)
+      all-upTo-more (test (a .i) (a .w) (a .f .now) (a .g .now)) (l .loop .j) (l .loop .inv .1)
           (sym (c .before .agree-byte .ensures) ∙ not-false (c .before .agree-byte .result) (c .if1 .left)),
     )
 
@@ -75,7 +76,7 @@ unfolding agreePart
 returns-2 c =
     let l = c .before in
     let a = l .before .before .before .args in
-    all-done (test (a .i) (a .w) (a .f .now) (a .g .now)) (a .w) (l .loop .j) (l .loop .inv .0) (c .loop-test .left) (l .loop .inv .1)
+    sym (l .loop .inv .1) ∙ ap (λ n. all (test (a .i) (a .w) (a .f .now) (a .g .now)) (upTo n)) (le-antisymm (l .loop .inv .0) (c .loop-test .left))
 
 pub agree-spec : {M : Type 1} → statement M
 agree-spec =

@@ -2,14 +2,15 @@
 -- Assumes nothing.
 use borrow.Author.Needs.{needs}
 use borrow.Author.Tests.{not-true, not-false}
-use mathlib.Core.Path.{_≡_, refl, sym, _∙_}
+use mathlib.Core.Path.{_≡_, refl, sym, ap, _∙_}
 use mathlib.Core.Bool.{Bool, true}
 use mathlib.Core.List.{List}
 use Prim.Native.Nat.{ℕ, _-_, _≤_, zero-le}
+use native.Mathlib.Nat.{le-antisymm}
 use Rattle.diagram.specs.Lists.{all, upTo}
+use Rattle.diagram.proofs.Numbers.{all-upTo-more, all-upTo-fails}
 use Rattle.fill.specs.Bytes.{alwaysByte}
 use Rattle.fill.specs.Parts.{valueByte, careByte, alwaysPart}
-use Rattle.fill.proofs.Counted.{all-more, all-fails, all-done}
 use Rattle.fill.proofs.part.always.Statement.{statement}
 use Rattle.fill.proofs.part.always.Tie as tie
 
@@ -43,8 +44,8 @@ unfolding alwaysPart
 returns c =
     let l = c .before .before .before .before .before in
     let a = l .before .before .args in
-    all-fails (test (a .v) (a .w) (a .f .now)) (a .w) (l .loop .j) (search needs)
-    (sym (c .before .always-byte .ensures) ∙ not-true (c .before .always-byte .result) (c .if1 .taken))
+    sym (all-upTo-fails (test (a .v) (a .w) (a .f .now)) (a .w) (l .loop .j) (search needs)
+    (sym (c .before .always-byte .ensures) ∙ not-true (c .before .always-byte .result) (c .if1 .taken)))
 
 add-j : tie.Need-add-j Inv-loop μ-loop
 add-j c = search needs
@@ -57,7 +58,7 @@ loop-again c =
     let l = c .before .before .before .before .before in
     let a = l .before .before .args in (
       search needs,
-      all-more (test (a .v) (a .w) (a .f .now)) (l .loop .j) (l .loop .inv .1)
+      all-upTo-more (test (a .v) (a .w) (a .f .now)) (l .loop .j) (l .loop .inv .1)
           (sym (c .before .always-byte .ensures) ∙ not-false (c .before .always-byte .result) (c .if1 .left)),
     )
 
@@ -66,7 +67,7 @@ unfolding alwaysPart
 returns-2 c =
     let l = c .before in
     let a = l .before .before .args in
-    all-done (test (a .v) (a .w) (a .f .now)) (a .w) (l .loop .j) (l .loop .inv .0) (c .loop-test .left) (l .loop .inv .1)
+    sym (l .loop .inv .1) ∙ ap (λ n. all (test (a .v) (a .w) (a .f .now)) (upTo n)) (le-antisymm (l .loop .inv .0) (c .loop-test .left))
 
 pub always-spec : {M : Type 1} → statement M
 always-spec =

@@ -7,7 +7,8 @@ use Prim.Native.Nat.{_≤_, _-_}
 use borrow.Author.Tests.{not-true, not-false}
 use denote.Ref.{now}
 use Rattle.diagram.specs.Lists.{all, upTo}
-use Rattle.network.proofs.Tested.{goodNode, all-more, nodes-bad, nodes-good}
+use Rattle.diagram.proofs.Numbers.{all-upTo-more}
+use Rattle.network.proofs.Tested.{goodNode, nodes-bad, nodes-good}
 use Rattle.network.proofs.cells.nodes_good.Statement.{statement}
 use Rattle.network.proofs.cells.nodes_good.Tie as tie
 
@@ -42,7 +43,7 @@ loop-again c =
     let l = c .before .before .before .loop in
     let g = c .before .node-good in (
       search needs,
-      all-more (goodNode (a .count) (now (a .cells)) (a .n)) (l .i) (l .inv .1) (sym (g .ensures) ∙ not-false (g .result) (c .if1 .left)),
+      all-upTo-more (goodNode (a .count) (now (a .cells)) (a .n)) (l .i) (l .inv .1) (sym (g .ensures) ∙ not-false (g .result) (c .if1 .left)),
     )
 
 returns-2 : tie.Need-returns-2 Inv-loop μ-loop

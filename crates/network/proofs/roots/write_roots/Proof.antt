@@ -4,8 +4,9 @@ use native.Mathlib.Omega.{arith}
 use denote.Ref.{now}
 use lib.ListN.{length}
 use Rattle.table.specs.Calls.{over}
+use Rattle.table.proofs.Over.{over-next, length-over}
 use Rattle.network.specs.Levels.{rootAt}
-use Rattle.network.proofs.RootTurns.{roots-size, over-more, over-length}
+use Rattle.network.proofs.RootTurns.{roots-size}
 use Rattle.network.proofs.roots.write_roots.Statement.{statement}
 use Rattle.network.proofs.roots.write_roots.Tie as tie
 use Rattle.network.proofs.roots.write_roots.Reads as reads
@@ -39,7 +40,7 @@ slice-write-roots : tie.Need-slice-write-roots Inv-loop μ-loop
 slice-write-roots c =
     let a = c .before .before .before .before .before .args in
     let l = c .before .before .loop in
-    omega (arith, ap length (l .inv .1), over-length (rootAt (now (a .work)) (a .m) (a .below)) (l .j) (now (a .roots)) (omega arith))
+    omega (arith, ap length (l .inv .1), length-over (rootAt (now (a .work)) (a .m) (a .below)) (l .j) (now (a .roots)) (omega arith))
 
 -- src/roots.rt:31:9
 add-j : tie.Need-add-j Inv-loop μ-loop
@@ -55,7 +56,7 @@ loop-again c =
     let a = c .before .before .before .before .before .args in
     let l = c .before .before .loop in (
       omega arith,
-      over-more (rootAt (now (a .work)) (a .m) (a .below)) (l .j) (c .root-of .result) (l .roots) (now (a .roots)) (omega arith) (l .inv .1)
+      over-next (rootAt (now (a .work)) (a .m) (a .below)) (now (a .roots)) (l .roots) (l .j) (c .root-of .result) (omega arith) (l .inv .1)
           (c .root-of .ensures .0),
     )
 
@@ -64,7 +65,7 @@ same-length : tie.Need-same-length Inv-loop μ-loop
 same-length c =
     let a = c .before .before .before .before .args in
     let l = c .before .loop in
-    ap length (l .inv .1) ∙ over-length (rootAt (now (a .work)) (a .m) (a .below)) (l .j) (now (a .roots)) (omega arith)
+    ap length (l .inv .1) ∙ length-over (rootAt (now (a .work)) (a .m) (a .below)) (l .j) (now (a .roots)) (omega arith)
 
 -- src/roots.rt:23:1
 returns : tie.Need-returns Inv-loop μ-loop

@@ -15,7 +15,7 @@ use Rattle.sift.proofs.choice.fullest.Tie as tie
 use Rattle.sift.proofs.choice.fullest.Reads as reads
 use Rattle.sift.proofs.choice.fullest.Lts as lts
 use Rattle.sift.proofs.choice.overtake.Reads as overtake-reads
-use Rattle.sift.proofs.order.place_of.Reads as place-of-reads
+use Rattle.table.proofs.order.place_of.Reads as place-of-reads
 
 abbrev Inv-loop : tie.InvT-loop
 Inv-loop order n counts done lead₀ v₀ lead v =

@@ -4,9 +4,9 @@ use borrow.Author.Needs.{needs}
 use mathlib.Core.Path.{ap, _∙_}
 use denote.Ref.{now}
 use lib.ListN.{take}
+use Rattle.table.proofs.Held.{heading-inputs, heading-order}
 use Rattle.fill.specs.declared.Levels.{Levels}
 use Rattle.fill.specs.Calls.{heldTable}
-use Rattle.sift.proofs.Headings.{heading-inputs, heading-order}
 use Rattle.sift.proofs.Counted.{counted-work, counted-levels}
 use Rattle.sift.proofs.Chosen.{next-counted}
 use Rattle.sift.proofs.choice.next_variable.Statement.{statement}

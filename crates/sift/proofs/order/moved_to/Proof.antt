@@ -13,7 +13,7 @@ use Rattle.sift.proofs.order.moved_to.Tie as tie
 use Rattle.sift.proofs.order.moved_to.Reads as reads
 use Rattle.sift.proofs.order.moved_to.Lts as lts
 use Rattle.sift.proofs.order.moved_entry.Reads as moved-entry-reads
-use Rattle.sift.proofs.order.place_of.Reads as place-of-reads
+use Rattle.table.proofs.order.place_of.Reads as place-of-reads
 
 abbrev Inv-loop : tie.InvT-loop
 Inv-loop order n v p q after₀ i₀ after i = (i ≤ n) × (after ≡ take i (moved v p (take n order)) ++ drop i order)

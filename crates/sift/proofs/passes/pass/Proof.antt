@@ -6,7 +6,6 @@ use native.Mathlib.Omega.{arith}
 use borrow.Author.Tests.{not-true, not-false}
 use denote.Ref.{now}
 use Rattle.diagram.proofs.Bools.{to-T}
-use Rattle.sift.proofs.Headings.{held-heading}
 use Rattle.sift.proofs.Passed.{pass-short, pass-no-table, pass-done}
 use Rattle.sift.proofs.passes.pass.Statement.{statement}
 use Rattle.sift.proofs.passes.pass.Tie as tie
@@ -16,6 +15,7 @@ use Rattle.sift.proofs.passes.run.Reads as run-reads
 use Rattle.sift.proofs.room.has_room.Reads as has-room-reads
 use Rattle.sift.proofs.trials.reorder.Reads as reorder-reads
 use Rattle.table.proofs.valid.holds_table.Reads as holds-table-reads
+use Rattle.table.proofs.Held.{held-heading}
 
 has-room-requires : tie.Need-has-room-requires
 has-room-requires c κs = search needs

@@ -3,7 +3,7 @@
 -- Assumes nothing.
 use borrow.Author.Needs.{needs}
 use Rattle.table.specs.State.{orderOf}
-use Rattle.sift.proofs.Headings.{heading-inputs}
+use Rattle.table.proofs.Held.{heading-inputs}
 use Prim.Native.Nat.{_-_}
 use mathlib.Core.Path.{refl, ap, _∙_}
 use native.Mathlib.Omega.{arith}

@@ -4,8 +4,8 @@ use borrow.Author.Needs.{needs}
 use native.Mathlib.Omega.{arith}
 use denote.Ref.{now}
 use lib.ListN.{take}
+use Rattle.table.proofs.Held.{heading-inputs, heading-order}
 use Rattle.sift.proofs.Zeroed.{enough-again, zero-again}
-use Rattle.sift.proofs.Headings.{heading-inputs, heading-order}
 use Rattle.sift.proofs.Turned.{turn-below, current-heading, current-below, turn-place, turn-tried, turned}
 use Rattle.sift.proofs.passes.turn.Statement.{statement}
 use Rattle.sift.proofs.passes.turn.Tie as tie

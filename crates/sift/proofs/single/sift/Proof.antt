@@ -7,7 +7,6 @@ use denote.Ref.{now}
 use Rattle.diagram.proofs.Bools.{to-T}
 use Rattle.table.specs.State.{orderOf}
 use Rattle.fill.specs.Calls.{heldTable}
-use Rattle.sift.proofs.Headings.{held-heading, heading-inputs, heading-order}
 use Rattle.sift.proofs.Trying.{best-below}
 use Rattle.sift.proofs.Sifted.{sift-short, sift-no-table, sift-no-place, sift-done}
 use Rattle.sift.proofs.single.sift.Statement.{statement}
@@ -19,6 +18,7 @@ use Rattle.sift.proofs.room.has_room.Reads as has-room-reads
 use Rattle.sift.proofs.trials.best_place.Reads as best-place-reads
 use Rattle.sift.proofs.trials.reorder.Reads as reorder-reads
 use Rattle.table.proofs.valid.holds_table.Reads as holds-table-reads
+use Rattle.table.proofs.Held.{held-heading, heading-inputs, heading-order}
 
 has-room-requires : tie.Need-has-room-requires
 has-room-requires c κs = search needs

@@ -7,8 +7,9 @@ use Prim.Native.Nat.{ℕ}
 use denote.Ref.{now}
 use Rattle.diagram.specs.Table.{cost}
 use Rattle.table.specs.State.{orderOf}
+use Rattle.table.proofs.Held.{heading-inputs, heading-order}
 use Rattle.fill.specs.Calls.{heldTable}
-use Rattle.sift.proofs.Headings.{heading-inputs, heading-order, take-moved, heading-after}
+use Rattle.sift.proofs.Headings.{take-moved, heading-after}
 use Rattle.sift.proofs.trials.trial.Statement.{statement}
 use Rattle.sift.proofs.trials.trial.Tie as tie
 use Rattle.sift.proofs.trials.trial.Reads as reads

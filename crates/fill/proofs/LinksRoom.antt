@@ -1,31 +1,28 @@
 -- How many links the levels have in all: at most 4,350 for the largest table. The outputs', and two an entry of each level.
 -- Assumes nothing.
-use mathlib.Core.Path.{_≡_, refl}
 use mathlib.Core.Bool.{true}
-use mathlib.Core.List.{List, [], _∷_}
+use mathlib.Core.List.{List, []}
 use Prim.Native.Nat.{ℕ, zero, suc, _+_, _*_, _-_, _^_, _≤_, min, suc-le-suc}
 use native.Mathlib.Nat.{le-trans, le-min, min-le-left, min-le-right, add-le-add, mul-le-mul-left}
 use native.Mathlib.Omega.{arith}
-use lib.Dec.{T, leb, leb→le, eqb}
+use lib.Dec.{T, leb, leb→le}
 use lib.ListN.{length, length-append}
 use Rattle.diagram.specs.Lists.{all, upTo}
 use Rattle.diagram.specs.Tree.{Tree, halves}
-use Rattle.diagram.specs.Fill.{Row, Link, level, trace}
-use Rattle.diagram.specs.Bound.{mostVariables, mostOutputs}
-use Rattle.diagram.proofs.Lists.{eqb-equality, all-has}
+use Rattle.diagram.specs.Fill.{Row, level, trace}
 use Rattle.diagram.proofs.Tree.{length-halves}
 use Rattle.diagram.proofs.Fill.{links-length, trace-zero, trace-suc}
-use Rattle.diagram.proofs.Numbers.{has-upTo}
-use Rattle.fill.specs.Work.{linkBytes, joined}
+use Rattle.diagram.proofs.Numbers.{all-upTo-at}
+use Rattle.fill.specs.Work.{joined}
 use Rattle.fill.proofs.Room.{entries-candidates, entries-most}
 
 -- the most links from a level on, where d variables are left and its candidates are k: one a candidate, and two an entry of it,
 -- which are at most the candidates, and at most the classes of functions that vary
-unfoldable pub mostLinks : ℕ → ℕ → ℕ
+unfoldable mostLinks : ℕ → ℕ → ℕ
 mostLinks zero k = k
 mostLinks (suc d) k = k + mostLinks d (2 * min k (2 ^ (2 ^ suc d - 1) - 1))
 
-pub mostLinks-mono : (d : ℕ) {k k′ : ℕ} → k ≤ k′ → mostLinks d k ≤ mostLinks d k′
+mostLinks-mono : (d : ℕ) {k k′ : ℕ} → k ≤ k′ → mostLinks d k ≤ mostLinks d k′
 unfolding mostLinks
 mostLinks-mono zero h = h
 mostLinks-mono (suc d) {k} h =
@@ -51,19 +48,12 @@ links-bounded (suc d) fs =
       mostLinks-mono d most,
     ))
 
--- the bound at the most outputs, computed for each number of variables up to the largest
-rooms-hold : T (all (λ n. leb (mostLinks n mostOutputs) 4350) (upTo (suc mostVariables)))
-unfolding mostLinks mostVariables mostOutputs
+-- the bound at sixteen outputs, computed for each number of variables up to ten
+rooms-hold : T (all (λ n. leb (mostLinks n 16) 4350) (upTo 11))
+unfolding mostLinks
 rooms-hold = tt
 
-pub links-room : (n : ℕ) (fs : List (Tree Row n)) → n ≤ mostVariables → length fs ≤ mostOutputs → length (joined (trace true n fs)) ≤ 4350
+pub links-room : (n : ℕ) (fs : List (Tree Row n)) → n ≤ 10 → length fs ≤ 16 → length (joined (trace true n fs)) ≤ 4350
 links-room n fs h k =
     le-trans (le-trans (links-bounded n fs) (mostLinks-mono n k))
-    (leb→le (mostLinks n mostOutputs) 4350
-    (all-has eqb eqb-equality (λ i. leb (mostLinks i mostOutputs) 4350) (upTo (suc mostVariables)) rooms-hold n
-    (has-upTo n (suc mostVariables) (suc-le-suc h))))
-
--- two bytes a link
-pub bytes-length : (ks : List Link) → length (linkBytes ks) ≡ 2 * length ks
-bytes-length [] = refl
-bytes-length (k ∷ ks) = omega (arith, bytes-length ks)
+    (leb→le (mostLinks n 16) 4350 (all-upTo-at (λ i. leb (mostLinks i 16) 4350) 11 rooms-hold n (suc-le-suc h)))

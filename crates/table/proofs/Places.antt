@@ -1,6 +1,6 @@
 -- The level of a variable, looked for one entry after the other.
 -- Assumes nothing.
-use mathlib.Core.Path.{_≡_}
+use mathlib.Core.Path.{_≡_, sym, ap, _∙_}
 use mathlib.Core.List.{List}
 use Prim.Native.Nat.{ℕ, suc, _+_, _≤_, _<_}
 use native.Mathlib.Numerals.{add-one}
@@ -8,8 +8,9 @@ use native.Mathlib.Omega.{arith}
 use borrow.Author.Tests.{eq-eqb, ne-eqb}
 use lib.Dec.{eqb}
 use lib.ListN.{length, getD, take}
+use lib.Seq.{take-all}
 use Rattle.diagram.specs.Lists.{index}
 use Rattle.table.proofs.Orders.{rest, rest-cons, rest-none}
 
 index-now : (v : ℕ) (l : List ℕ) (n i : ℕ) → n ≤ length l → i < n → v ≡ getD l i 0 → index eqb v (rest l n i) ≡ 0
 index-now v l n i k h e = rw (rest-cons l n i k h, eq-eqb v (getD l i 0) e)
@@ -31,3 +32,7 @@ module _ (v : ℕ) (l : List ℕ) (n i : ℕ) (k : n ≤ length l) (p : index eq
 
   pub place-none : n ≤ i → i ≡ index eqb v (take n l)
   place-none h = omega (arith, index-none v l n i k h)
+
+-- of ten entries no more are used than there are
+pub place-past : (v n : ℕ) (l : List ℕ) (r : ℕ) → 10 < n → length l ≤ 10 → r ≡ index eqb v (take 10 l) → r ≡ index eqb v (take n l)
+place-past v n l r h e p = p ∙ ap (index eqb v) (take-all 10 l e ∙ sym (take-all n l (omega (arith, e, h))))
