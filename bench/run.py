@@ -163,7 +163,7 @@ def ratios(ours, theirs):
 
 HEADING = [
     "inputs, outputs", "cared", "`&ttopt`", "count, ms", "build, ms", "pass, ms", "their pass, ms",
-    "pass, ours / theirs", "count / one order of theirs", "cells, ours / theirs",
+    "pass, ours / theirs", "count / one order of theirs", "build / count", "cells, ours / theirs",
 ]
 
 
@@ -178,6 +178,7 @@ def line(table, samples, way, cells):
         milliseconds(samples["pass"]), milliseconds(theirs),
         with_range(ratios(samples["pass"], theirs)),
         with_range(ratios(samples["count"], their_order)),
+        with_range(ratios(samples["build"], samples["count"])),
         cells,
     ]
 

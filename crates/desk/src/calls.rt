@@ -13,7 +13,7 @@ use text::word::Number;
 use text::word::number_in;
 
 // The most cells, and the largest number of a word.
-const CELLS: usize = 2159;
+pub(crate) const CELLS: usize = 2159;
 
 const LARGEST: u32 = 4294967295;
 

@@ -3,13 +3,18 @@ mod calls;
 mod command;
 mod show;
 
+use calls::CELLS;
 use calls::Desk;
 use command::Command;
+use fill::WORK;
 use libc::STDIN_FILENO;
+use network::ROOTS;
 use show::answer;
 use show::number;
 use table::Answer;
+use table::PLANE;
 use table::load::unloaded;
+use text::input::LONGEST;
 use text::input::load_input;
 
 // The longest word that is read whole.
@@ -71,12 +76,12 @@ fn finish(desk: Desk, count: usize) {
 
 fn main() {
     // One byte more than the longest input, to see that there is more.
-    let mut file = [0u8; 65537];
-    let mut values = [0u8; 2048];
-    let mut care = [0u8; 2048];
-    let mut work = [0u8; 32768];
-    let mut roots = [0u16; 16];
-    let mut cells = [0u16; 6477];
+    let mut file = [0u8; LONGEST + 1];
+    let mut values = [0u8; PLANE];
+    let mut care = [0u8; PLANE];
+    let mut work = [0u8; WORK];
+    let mut roots = [0u16; ROOTS];
+    let mut cells = [0u16; 3 * CELLS];
     let length = io::read_full(STDIN_FILENO, &mut file);
     let outcome = load_input(unloaded(), &file[..length], &mut values, &mut care);
     let loaded = outcome.answer;
