@@ -1,7 +1,7 @@
 -- Building (document 01, sections 2, 4 and 7): 10, 21, then 23 with the cells wanted; else section 4's network.
 -- Assumes nothing.
 use mathlib.Core.Path.{_≡_}
-use mathlib.Core.Bool.{Bool, true, false, cond, not, _&&_, _||_}
+use mathlib.Core.Bool.{true, cond, not, _&&_, _||_}
 use mathlib.Core.List.{List, _++_}
 use mathlib.Core.Logic.{_↔_}
 use Prim.Native.Nat.{ℕ, _*_, _/_, _<_, _≤_, _^_}

@@ -1,13 +1,12 @@
 -- What a single sift and a pass answer and leave (document 01, sections 2, 5, 6 and 7).
 -- Assumes nothing.
 use mathlib.Core.Path.{_≡_}
-use mathlib.Core.Bool.{Bool, cond, not}
+use mathlib.Core.Bool.{cond, not}
 use mathlib.Core.List.{List, _++_}
 use Prim.Native.Nat.{ℕ, _*_, _<_}
 use lib.Dec.{ltb}
 use lib.ListN.{drop}
-use Rattle.diagram.specs.Order.{isOrder}
-use Rattle.diagram.specs.Table.{Table, cost}
+use Rattle.diagram.specs.Table.{cost}
 use Rattle.diagram.specs.Sift.{sift, pass, allowed, Pass}
 use Rattle.diagram.specs.Demands.{SiftedLeast, TurnsLeast}
 use Rattle.table.specs.declared.Answer.{Answer}

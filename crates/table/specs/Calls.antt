@@ -1,6 +1,6 @@
 -- What each call of this crate answers and leaves (document 01, sections 2, 6 and 7).
 -- Assumes nothing.
-use mathlib.Core.Bool.{Bool, true, false, cond, not, _&&_}
+use mathlib.Core.Bool.{cond, not, _&&_}
 use mathlib.Core.List.{List, _++_, map}
 use Prim.Native.Nat.{ℕ, suc, _+_}
 use lib.Dec.{ltb, leb}
@@ -13,7 +13,7 @@ use Rattle.table.specs.declared.Answer.the-variants.{Done, NoPlace, Shor
 use Rattle.table.specs.declared.Stage.the-variants.{Table as AtTable}
 use Rattle.table.specs.Answer.{unless, done}
 use Rattle.table.specs.Stream.{caredBits}
-use Rattle.table.specs.State.{orderOf, stageOf, isNothing, exchanged, reorderedState}
+use Rattle.table.specs.State.{stageOf, isNothing, exchanged, reorderedState}
 use Rattle.table.specs.File.{byte, inputsOf, outputsOf, streamBlocks, streamByte, fileAnswer}
 
 -- the bytes of values or care that a call uses

@@ -6,7 +6,6 @@ use Prim.Native.Nat.{ℕ, zero, suc, _+_, _*_, _/_, _%_, _^_}
 use lib.Dec.{eqb}
 use lib.ListN.{getD}
 use Rattle.diagram.specs.Lists.{digit}
-use Rattle.diagram.specs.Fill.{Row}
 use Rattle.diagram.specs.Table.{Table}
 
 unfoldable pub streamBit : List ℕ → ℕ → Bool

@@ -1,13 +1,11 @@
 -- The digits of a number, written in turn.
 -- Assumes nothing.
-use mathlib.Core.Path.{_≡_, refl, sym, ap, _∙_}
-use mathlib.Core.Bool.{Bool, true, false, cond}
+use mathlib.Core.Path.{_≡_, refl, sym, ap}
 use mathlib.Core.List.{List, [], _∷_, _++_}
 use Prim.Native.Nat.{ℕ, zero, suc, _+_, _-_, _/_, _%_, _≤_, _<_}
 use native.Mathlib.Omega.{arith}
-use lib.Dec.{ltb}
 use borrow.Author.Tests.{lt-ltb, le-ltb}
-use Rattle.text.specs.Text.{digits, decimal, space, spaced}
+use Rattle.text.specs.Text.{digits, decimal, spaced}
 use Rattle.text.specs.Written.{Written}
 use Rattle.text.proofs.Writing.{written-then, written-as}
 

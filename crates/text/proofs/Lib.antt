@@ -9,3 +9,4 @@ pub mod Whole
 pub mod Small
 pub mod Fits
 pub mod Uncut
+pub mod ReadBack

@@ -1,14 +1,13 @@
 -- Texts written one after the other are the text of both.
 -- Assumes nothing.
 use mathlib.Core.Path.{_≡_, refl, sym, ap, _∙_, subst}
-use mathlib.Core.Bool.{Bool, true, false, not, cond}
 use mathlib.Core.List.{List, [], _∷_, _++_}
-use Prim.Native.Nat.{ℕ, zero, suc, _+_, _/_, _%_, _≤_, _<_, min}
-use native.Mathlib.Nat.{add-zero, le-refl, le-of-lt}
+use Prim.Native.Nat.{ℕ, suc, _+_, _≤_, _<_, min}
+use native.Mathlib.Nat.{add-zero}
 use native.Mathlib.Numerals.{add-one}
 use native.Mathlib.Omega.{arith}
-use lib.Dec.{T, ltb, ltb→lt, nltb→le}
-use lib.ListN.{length, set, length-append, take, drop, getD}
+use lib.Dec.{ltb, ltb→lt, nltb→le}
+use lib.ListN.{length, set, length-append, take, getD}
 use lib.Seq.{sets, set-out, length-sets, take-suc, take-all}
 use Rattle.diagram.proofs.Bools.{split}
 use Rattle.text.specs.Text.{joined}

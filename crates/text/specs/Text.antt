@@ -8,8 +8,6 @@ use lib.ListN.{length, getD}
 use Rattle.diagram.specs.Bound.{mostVariables}
 use Rattle.table.specs.declared.Answer.{Answer}
 use Rattle.table.specs.declared.State.{State}
-use Rattle.table.specs.declared.Stage.{Stage}
-use Rattle.table.specs.declared.Stage.the-variants.{Nothing, Table as AtTable, Network}
 use Rattle.table.specs.Answer.{number, value}
 use Rattle.table.specs.State.{stageOf, isNetwork}
 

@@ -1,6 +1,5 @@
 -- `table::block::kind_fits` meets its contract: each arm's number is the kind.
 -- Assumes nothing.
-use borrow.Author.Needs.{needs}
 use Rattle.table.proofs.BlockTests.{kind-arm, kind-none}
 use Rattle.table.proofs.block.kind_fits.Statement.{statement}
 use Rattle.table.proofs.block.kind_fits.Tie as tie

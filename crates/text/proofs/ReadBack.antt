@@ -1,0 +1,36 @@
+-- A number's text reads back as that number: twenty digits are enough for it.
+-- Assumes nothing.
+use mathlib.Core.Path.{_≡_, refl, sym, ap, _∙_}
+use mathlib.Core.List.{List, [], _∷_, _++_}
+use Prim.Native.Nat.{ℕ, zero, suc, _+_, _*_, _-_, _/_, _%_, _^_, _≤_, _<_}
+use native.Mathlib.Omega.{arith}
+use borrow.Author.Tests.{le-leb, lt-ltb, le-ltb}
+use lib.Dec.{ltb, ltb→lt, nltb→le}
+use Rattle.diagram.proofs.Bools.{split}
+use Rattle.text.specs.Text.{digits, decimal}
+use Rattle.text.specs.Word.{digitOf, readOn}
+
+read-more : (v : ℕ) (xs : List ℕ) (b : ℕ) → readOn v (xs ++ (b ∷ [])) ≡ 10 * readOn v xs + digitOf b
+read-more v [] b = refl
+read-more v (x ∷ xs) b = read-more (10 * v + digitOf x) xs b
+
+last-digit : (x : ℕ) → digitOf (48 + x % 10) ≡ x % 10
+unfolding digitOf
+last-digit x =
+    rw (le-leb 48 (48 + x % 10) (omega arith), le-leb (48 + x % 10) 57 (omega arith)) (omega arith)
+
+small : (x : ℕ) → x < 10 → readOn 0 ((48 + x % 10) ∷ []) ≡ x
+small x h = omega (arith, last-digit x)
+
+digits-back : (f x : ℕ) → x < 10 ^ suc f → readOn 0 (digits f x) ≡ x
+digits-back zero x h = small x (omega (arith, h))
+digits-back (suc f) x h =
+    split (ltb x 10) (λ e. rw e (small x (ltb→lt x 10 (rw e tt))))
+    (λ e. rw e
+    (let k : x / 10 < 10 ^ suc f = omega (arith, h) in
+    let r : readOn 0 (digits f (x / 10)) ≡ x / 10 = digits-back f (x / 10) k in
+    read-more 0 (digits f (x / 10)) (48 + x % 10) ∙ omega (arith, r, last-digit x)))
+
+pub decimal-back : (x : ℕ) → x < 10 ^ 20 → readOn 0 (decimal x) ≡ x
+unfolding decimal
+decimal-back x h = digits-back 19 x h
