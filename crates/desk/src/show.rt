@@ -1,4 +1,5 @@
 // What is printed: one line, or the lines of a network.
+use diagram::VARIABLES;
 use libc::STDOUT_FILENO;
 use network::evaluate::evaluate;
 use table::Answer;
@@ -72,7 +73,7 @@ fn row(state: State, row: usize, roots: &[u16], cells: &[u16]) {
 
 pub(crate) fn rows(state: State, roots: &[u16], cells: &[u16]) {
     let n = state.n;
-    if n > table::VARIABLES {
+    if n > VARIABLES {
         return;
     }
     let end: usize = 1 << n;

@@ -7,7 +7,7 @@ use native.Mathlib.Nat.{not-suc-le-zero, div-one, one-mul, mod-eq-of-lt, add-zer
 use native.Mathlib.Omega.{arith}
 use lib.Dec.{eqb, eqb→eq}
 use lib.Pow.{pow-lt, shr-shr}
-use Rattle.diagram.specs.Lists.{digit, number, bit}
+use Rattle.diagram.specs.Lists.{digit, rowNumber, bit}
 use Rattle.diagram.specs.Tree.{draw, at}
 use Rattle.diagram.proofs.Bools.{split, to-T}
 use Rattle.diagram.proofs.Numbers.{below-other}
@@ -24,11 +24,11 @@ digit-part-le false n = omega arith
 pub one-shifted : (k : ℕ) → k < 64 → 1 * 2 ^ k % 2 ^ 64 ≡ 2 ^ k
 one-shifted k h = ap (λ (x : ℕ). x % 2 ^ 64) (one-mul (2 ^ k)) ∙ mod-eq-of-lt (pow-lt h)
 
-pub number-lt : (n : ℕ) (a : ℕ → Bool) → number n a < 2 ^ n
+pub number-lt : (n : ℕ) (a : ℕ → Bool) → rowNumber n a < 2 ^ n
 number-lt zero a = omega arith
 number-lt (suc n) a = omega (arith, number-lt n a, digit-le (a n))
 
-pub number-cong : (n : ℕ) (a b : ℕ → Bool) → ((v : ℕ) → v < n → a v ≡ b v) → number n a ≡ number n b
+pub number-cong : (n : ℕ) (a b : ℕ → Bool) → ((v : ℕ) → v < n → a v ≡ b v) → rowNumber n a ≡ rowNumber n b
 number-cong zero a b f = refl
 number-cong (suc n) a b f =
     ap₂ (λ (x : ℕ) (c : Bool). 2 * x + digit c) (number-cong n a b (λ v h. f v (omega arith))) (f n (omega arith))
@@ -62,19 +62,19 @@ digit-eqb zero h = refl
 digit-eqb (suc zero) h = refl
 digit-eqb (suc (suc k)) h = absurd (omega arith)
 
-pub bit-number : (n : ℕ) (a : ℕ → Bool) (v : ℕ) → v < n → bit n v (number n a) ≡ a v
+pub bit-number : (n : ℕ) (a : ℕ → Bool) (v : ℕ) → v < n → bit n v (rowNumber n a) ≡ a v
 bit-number zero a v h = absurd (not-suc-le-zero h)
 bit-number (suc n) a v h =
     split (eqb v n)
     (λ e. rw (eqb→eq v n (to-T e))
-    (bit-last n (number (suc n) a) ∙ ap (λ (k : ℕ). eqb k 1) (rest-digit (number n a) (a n)) ∙ eqb-digit (a n)))
+    (bit-last n (rowNumber (suc n) a) ∙ ap (λ (k : ℕ). eqb k 1) (rest-digit (rowNumber n a) (a n)) ∙ eqb-digit (a n)))
     (λ e. let k : v < n = below-other v n h e in
-    bit-half n v (number (suc n) a) k ∙ ap (bit n v) (half-digit (number n a) (a n)) ∙ bit-number n a v k)
+    bit-half n v (rowNumber (suc n) a) k ∙ ap (bit n v) (half-digit (rowNumber n a) (a n)) ∙ bit-number n a v k)
 
-pub number-bit : (n x : ℕ) → x < 2 ^ n → number n (λ v. bit n v x) ≡ x
+pub number-bit : (n x : ℕ) → x < 2 ^ n → rowNumber n (λ v. bit n v x) ≡ x
 number-bit zero x h = omega arith
 number-bit (suc n) x h =
-    let e : number n (λ v. bit (suc n) v x) ≡ x / 2 =
+    let e : rowNumber n (λ v. bit (suc n) v x) ≡ x / 2 =
     number-cong n (λ v. bit (suc n) v x) (λ v. bit n v (x / 2)) (λ v k. bit-half n v x k) ∙ number-bit n (x / 2) (omega arith) in
     let l : digit (bit (suc n) n x) ≡ x % 2 = ap digit (bit-last n x) ∙ digit-eqb (x % 2) (omega arith) in
     rw (e, l) (omega arith)
@@ -86,11 +86,11 @@ draw-step : {A : Type 0} (d p s : ℕ) (f : ℕ → A) (a : ℕ → Bool) (c : B
 draw-step d p s f a true = refl
 draw-step d p s f a false = ap (λ (k : ℕ). at (suc p) a (draw d f k)) (sym (add-zero (2 * s)))
 
-pub at-draw : {A : Type 0} (d p : ℕ) (f : ℕ → A) (a : ℕ → Bool) → at p a (draw d f (number p a)) ≡ f (number (p + d) a)
-at-draw zero p f a = ap (λ (k : ℕ). f (number k a)) (sym (add-zero p))
+pub at-draw : {A : Type 0} (d p : ℕ) (f : ℕ → A) (a : ℕ → Bool) → at p a (draw d f (rowNumber p a)) ≡ f (rowNumber (p + d) a)
+at-draw zero p f a = ap (λ (k : ℕ). f (rowNumber k a)) (sym (add-zero p))
 at-draw (suc d) p f a =
     let e : suc p + d ≡ p + suc d = omega arith in
-    draw-step d p (number p a) f a (a p) ∙ at-draw d (suc p) f a ∙ ap (λ (k : ℕ). f (number k a)) e
+    draw-step d p (rowNumber p a) f a (a p) ∙ at-draw d (suc p) f a ∙ ap (λ (k : ℕ). f (rowNumber k a)) e
 
-pub at-drawn : {A : Type 0} (n : ℕ) (f : ℕ → A) (a : ℕ → Bool) → at 0 a (draw n f 0) ≡ f (number n a)
-at-drawn n f a = at-draw n 0 f a ∙ ap (λ (k : ℕ). f (number k a)) (zero-add n)
+pub at-drawn : {A : Type 0} (n : ℕ) (f : ℕ → A) (a : ℕ → Bool) → at 0 a (draw n f 0) ≡ f (rowNumber n a)
+at-drawn n f a = at-draw n 0 f a ∙ ap (λ (k : ℕ). f (rowNumber k a)) (zero-add n)

@@ -39,7 +39,7 @@ bound-mono inv (suc n) {k} h =
 
 -- the bound at the most outputs, computed for each number of variables up to the largest
 bounds-hold : T (all (λ n. leb (bound true n mostOutputs) mostNodes) (upTo (suc mostVariables)))
-unfolding bound mostVariables mostOutputs mostNodes
+unfolding bound
 bounds-hold = tt
 
 pub most : (n : ℕ) (ts : List (Tree Bool n)) → n ≤ mostVariables → length ts ≤ mostOutputs → count true n ts ≤ mostNodes

@@ -8,7 +8,7 @@ use native.Mathlib.Nat.{le-refl, le-trans}
 use native.Mathlib.Omega.{arith}
 use lib.Dec.{T, eqb, eqb→eq}
 use lib.ListN.{length, getD}
-use Rattle.diagram.specs.Lists.{upTo, number, index}
+use Rattle.diagram.specs.Lists.{upTo, rowNumber, index}
 use Rattle.diagram.specs.Tree.{Tree, at, full, inverted}
 use Rattle.diagram.specs.Fill.{Row}
 use Rattle.diagram.specs.Diagram.{Diagram, refers, wellFormed}
@@ -84,7 +84,7 @@ module _ (inv : Bool) (t : Table) (order : List ℕ) where
         let f = getD (filled inv t order) j (full false (t .n)) in
         let g = function inv D (t .n) 0 (getD (D .roots) j 0) in
         tree-ext 0 f g
-        (λ a. let r = number (t .n) (λ v. a (index eqb v order)) in
+        (λ a. let r = rowNumber (t .n) (λ v. a (index eqb v order)) in
         let w = row-of (t .n) order o a in
         let b = rowUnder (t .n) order r in
         let fine : (q : ℕ) → 0 ≤ q → q < 0 + t .n → b q ≡ a q = λ q _ k. w .1 q (omega arith) in

@@ -60,9 +60,9 @@ Stands i f (e ∷ es) zero = Within i f e
 Stands i f (e ∷ es) (suc k) = Stands i f es k
 
 -- f ends in what the link says
-abbrev Linked : {d : ℕ} → Tree Row d → List (Tree Row d) → Link → Type 0
-Linked f es (const v) = T (always v f)
-Linked f es (entry k i) = Stands i f es k
+abbrev Links : {d : ℕ} → Tree Row d → List (Tree Row d) → Link → Type 0
+Links f es (const v) = T (always v f)
+Links f es (entry k i) = Stands i f es k
 
 -- While a level is under way each earlier candidate's cared rows stand in the entry that it is linked to:
 -- a candidate stands in its entry, and what stood in an entry stands there after a merge.
@@ -82,18 +82,18 @@ along-still (next n r) j x zero s = s
 along-still (next n r) j x (suc m) s = along-still r j x m s
 
 linked-still : {d : ℕ} {inv : Bool} {f : Tree Row d} {gs es : List (Tree Row d)} {l : Link} → Joined inv f gs l es →
-    (x : Tree Row d) (q : Link) → Linked x gs q → Linked x es q
+    (x : Tree Row d) (q : Link) → Links x gs q → Links x es q
 linked-still (fixed v t) x q s = s
 linked-still (placed n r) x (const v) s = s
 linked-still (placed n r) x (entry m j) s = along-still r j x m s
 
 joined-linked : {d : ℕ} {inv : Bool} {f : Tree Row d} {gs es : List (Tree Row d)} {l : Link} → Joined inv f gs l es
-    → Linked f es l
+    → Links f es l
 joined-linked (fixed v t) = t
 joined-linked (placed n r) = along-stands r
 
-level-still : {d : ℕ} (inv : Bool) (gs fs : List (Tree Row d)) (x : Tree Row d) (q : Link) → Linked x gs q
-    → Linked x (level inv gs fs .entries) q
+level-still : {d : ℕ} (inv : Bool) (gs fs : List (Tree Row d)) (x : Tree Row d) (q : Link) → Links x gs q
+    → Links x (level inv gs fs .entries) q
 level-still inv gs [] x q s = s
 level-still inv gs (f ∷ fs) x q s = level-still inv (candidate inv f gs .entries) fs x q (linked-still (candidate-view inv f gs) x q s)
 
@@ -115,7 +115,7 @@ stands-keeps i f (e ∷ es) (t ∷ ts) zero t₀ s a = keeps-inverted i f e t s 
 stands-keeps i f (e ∷ es) (t ∷ ts) (suc k) t₀ s a = stands-keeps i f es ts k t₀ s (a .1)
 
 follow-keeps : {d : ℕ} (f : Tree Row d) (es : List (Tree Row d)) (ts : List (Tree Bool d)) (q : Link) →
-    Linked f es q → KeepsAll es ts → Keeps f (follow ts q)
+    Links f es q → KeepsAll es ts → Keeps f (follow ts q)
 follow-keeps f es ts (const v) s a = keeps-full v f s
 follow-keeps {d} f es ts (entry k i) s a = stands-keeps i f es ts k (full false d) s a
 

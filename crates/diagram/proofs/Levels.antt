@@ -6,7 +6,7 @@ use mathlib.Core.List.{List, [], _∷_, map}
 use Prim.Native.Nat.{ℕ, zero, suc}
 use lib.ListN.{length}
 use Rattle.diagram.specs.Tree.{Tree, leaf, halves, pairs}
-use Rattle.diagram.specs.Fill.{Row, Link, const, Placed, candidate, level, follow, settled, fill, trace}
+use Rattle.diagram.specs.Fill.{Row, Link, const, Linked, candidate, level, follow, settled, fill, trace}
 use Rattle.diagram.proofs.Fill.{filled-length, halves-filled}
 
 -- the links of a level's candidates
@@ -35,7 +35,7 @@ below-halves inv d fs = halves-filled inv (level inv [] fs .entries)
 abbrev row : Bool → Bool → Tree Row 0
 row c v = leaf (record { value = v; care = c })
 
-abbrev placed : Bool → Bool → List (Tree Row 0) → Placed 0
+abbrev placed : Bool → Bool → List (Tree Row 0) → Linked 0
 placed c v gs = record { entries = gs; link = const (c && v) }
 
 single : (inv c v : Bool) (gs : List (Tree Row 0)) → candidate inv (row c v) gs ≡ placed c v gs

@@ -7,7 +7,7 @@ use Prim.Native.Nat.{ℕ, _^_, _<_}
 use native.Mathlib.Omega.{arith}
 use lib.Dec.{T, eqb, ltb, eqb→eq, eqb-refl, ltb→lt}
 use lib.ListN.{length, getD}
-use Rattle.diagram.specs.Lists.{all, has, index, distinct, number, bit}
+use Rattle.diagram.specs.Lists.{all, has, index, distinct, rowNumber, bit}
 use Rattle.diagram.specs.Tree.{at}
 use Rattle.diagram.specs.Order.{isOrder, rowUnder, behind}
 use Rattle.diagram.specs.Table.{Table, reordered}
@@ -62,17 +62,17 @@ module _ (n : ℕ) (order : List ℕ) (o : T (isOrder n order)) where
   order-index v h = getD-index eqb eqb-equality v order 0 (every-variable v h)
 
   -- the drawn row behind the row that the levels see of r is r
-  pub behind-row : (r : ℕ) → r < 2 ^ n → behind n order (number n (rowUnder n order r)) ≡ r
+  pub behind-row : (r : ℕ) → r < 2 ^ n → behind n order (rowNumber n (rowUnder n order r)) ≡ r
   unfolding behind
   behind-row r h =
-      number-cong n (λ v. bit n (index eqb v order) (number n (rowUnder n order r))) (λ v. bit n v r)
+      number-cong n (λ v. bit n (index eqb v order) (rowNumber n (rowUnder n order r))) (λ v. bit n v r)
       (λ v k. bit-number n (rowUnder n order r) (index eqb v order) (index-below v k) ∙ ap (λ (w : ℕ). bit n w r) (order-index v k))
       ∙ number-bit n r h
 
   -- whatever bits the levels are to see, some drawn row has them: this one
   pub row-of : (a : ℕ → Bool)
-      → (number n (λ v. a (index eqb v order)) < 2 ^ n)
-      × ((p : ℕ) → p < n → rowUnder n order (number n (λ v. a (index eqb v order))) p ≡ a p)
+      → (rowNumber n (λ v. a (index eqb v order)) < 2 ^ n)
+      × ((p : ℕ) → p < n → rowUnder n order (rowNumber n (λ v. a (index eqb v order))) p ≡ a p)
   row-of a = (
     number-lt n (λ v. a (index eqb v order)),
     λ p h. bit-number n (λ v. a (index eqb v order)) (getD order p 0)

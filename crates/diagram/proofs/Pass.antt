@@ -10,9 +10,9 @@ use lib.Dec.{T, eqb, ltb, leb, ltb→lt, lt→ltb, nltb→le, leb→le, nleb→l
 use lib.ListN.{length}
 use Rattle.diagram.specs.Lists.{all, has, distinct, upTo}
 use Rattle.diagram.specs.Order.{isOrder}
-use Rattle.diagram.specs.Table.{Table}
+use Rattle.diagram.specs.Table.{Table, cost}
 use Rattle.diagram.specs.Sift.{sift, nodesOf, Pass, unsifted, next, turn, start, sifting, pass, allowed}
-use Rattle.diagram.specs.Demands.{SiftedLeast, TurnsLeast}
+use Rattle.diagram.specs.Demands.{SiftedLeast, orderAfter, TurnsLeast}
 use Rattle.diagram.proofs.Bools.{split, of-not, to-T, to-not, and-T}
 use Rattle.diagram.proofs.Lists.{eqb-equality, has-keep, keep-has, index-lt, pigeonhole}
 use Rattle.diagram.proofs.Numbers.{length-upTo, has-upTo, upTo-lt, none-missing}
@@ -28,9 +28,9 @@ pub turn-order : (t : Table) (s : Pass) → turn t s .order ≡ sift t (next t s
 unfolding turn
 turn-order t s = refl
 
-pub turn-done : (t : Table) (s : Pass) → turn t s .done ≡ next t s ∷ s .done
+pub turn-sifted : (t : Table) (s : Pass) → turn t s .sifted ≡ next t s ∷ s .sifted
 unfolding turn
-turn-done t s = refl
+turn-sifted t s = refl
 
 pub turn-tried : (t : Table) (s : Pass) → turn t s .tried ≡ s .tried + t .n
 unfolding turn
@@ -42,10 +42,10 @@ after-suc t k order = refl
 
 -- the turns' number is the number of variables sifted, and n orders are tried a turn
 
-pub after-done : (t : Table) (k : ℕ) (order : List ℕ) → length (afterTurns t k order .done) ≡ k
+pub after-sifted : (t : Table) (k : ℕ) (order : List ℕ) → length (afterTurns t k order .sifted) ≡ k
 unfolding afterTurns turn
-after-done t zero order = refl
-after-done t (suc k) order = ap suc (after-done t k order)
+after-sifted t zero order = refl
+after-sifted t (suc k) order = ap suc (after-sifted t k order)
 
 pub after-tried : (t : Table) (k : ℕ) (order : List ℕ) → afterTurns t k order .tried ≡ k * t .n
 unfolding afterTurns turn
@@ -57,54 +57,54 @@ after-tried t (suc k) order = omega (arith, after-tried t k order)
 -- what a pass keeps: its order is valid, and what it has sifted are variables, none twice
 pub record Going (t : Table) (s : Pass) : Type 0 where
   pub valid : T (isOrder (t .n) (s .order))
-  pub apart : T (distinct eqb (s .done))
-  pub below : T (all (λ v. ltb v (t .n)) (s .done))
+  pub apart : T (distinct eqb (s .sifted))
+  pub below : T (all (λ v. ltb v (t .n)) (s .sifted))
 
 -- were none left, all n variables would stand among fewer than n
-pub some-left : (t : Table) (s : Pass) → length (s .done) < t .n → 0 < length (unsifted t s)
+pub some-left : (t : Table) (s : Pass) → length (s .sifted) < t .n → 0 < length (unsifted t s)
 some-left t s h =
     split (ltb 0 (length (unsifted t s))) (λ e. ltb→lt 0 (length (unsifted t s)) (to-T e))
     (λ e. let z : length (unsifted t s) ≤ 0 = nltb→le 0 (length (unsifted t s)) (to-not e) in
-    let f : t .n ≤ length (s .done) = all-done z in
+    let f : t .n ≤ length (s .sifted) = all-sifted z in
     absurd (omega arith))
   where
-    was : length (unsifted t s) ≤ 0 → (v : ℕ) → T (has eqb v (upTo (t .n))) → T (has eqb v (s .done))
+    was : length (unsifted t s) ≤ 0 → (v : ℕ) → T (has eqb v (upTo (t .n))) → T (has eqb v (s .sifted))
     was z v k =
-        split (has eqb v (s .done)) (λ e. to-T e)
-        (λ e. let kept = has-keep eqb eqb-equality (λ w. not (has eqb w (s .done))) v (upTo (t .n)) k (to-not e) in
+        split (has eqb v (s .sifted)) (λ e. to-T e)
+        (λ e. let kept = has-keep eqb eqb-equality (λ w. not (has eqb w (s .sifted))) v (upTo (t .n)) k (to-not e) in
         let i = index-lt eqb eqb-equality v (unsifted t s) kept in
         absurd (omega arith))
 
-    all-done : length (unsifted t s) ≤ 0 → t .n ≤ length (s .done)
-    all-done z =
-        let p = pigeonhole eqb eqb-equality (upTo (t .n)) (s .done) (rising-distinct (upTo (t .n)) (rising-upTo (t .n))) (was z) in
+    all-sifted : length (unsifted t s) ≤ 0 → t .n ≤ length (s .sifted)
+    all-sifted z =
+        let p = pigeonhole eqb eqb-equality (upTo (t .n)) (s .sifted) (rising-distinct (upTo (t .n)) (rising-upTo (t .n))) (was z) in
         omega (arith, length-upTo (t .n))
 
-module _ (t : Table) (s : Pass) (h : length (s .done) < t .n) where
+module _ (t : Table) (s : Pass) (h : length (s .sifted) < t .n) where
   -- it is one of those that are left
   next-left : T (has eqb (next t s) (unsifted t s))
   unfolding next
   next-left = most-has (nodesOf t (s .order)) (unsifted t s) (some-left t s h)
 
   pub next-below : next t s < t .n
-  next-below = upTo-lt (next t s) (t .n) (keep-has eqb eqb-equality (λ v. not (has eqb v (s .done))) (next t s) (upTo (t .n)) next-left .0)
+  next-below = upTo-lt (next t s) (t .n) (keep-has eqb eqb-equality (λ v. not (has eqb v (s .sifted))) (next t s) (upTo (t .n)) next-left .0)
 
-  pub next-unsifted : has eqb (next t s) (s .done) ≡ false
-  next-unsifted = of-not (keep-has eqb eqb-equality (λ v. not (has eqb v (s .done))) (next t s) (upTo (t .n)) next-left .1)
+  pub next-unsifted : has eqb (next t s) (s .sifted) ≡ false
+  next-unsifted = of-not (keep-has eqb eqb-equality (λ v. not (has eqb v (s .sifted))) (next t s) (upTo (t .n)) next-left .1)
 
   pub turn-going : Going t s → Going t (turn t s)
   unfolding turn
   turn-going g =
       record {
         valid = sift-order t (next t s) (s .order) (g .valid) next-below;
-        apart = and-T (not (has eqb (next t s) (s .done))) (distinct eqb (s .done)) (to-not next-unsifted) (g .apart);
-        below = and-T (ltb (next t s) (t .n)) (all (λ v. ltb v (t .n)) (s .done)) (lt→ltb (next t s) (t .n) next-below) (g .below);
+        apart = and-T (not (has eqb (next t s) (s .sifted))) (distinct eqb (s .sifted)) (to-not next-unsifted) (g .apart);
+        below = and-T (ltb (next t s) (t .n)) (all (λ v. ltb v (t .n)) (s .sifted)) (lt→ltb (next t s) (t .n) next-below) (g .below);
       }
 
 -- none left has more nodes under the order, and none lower as many
-module _ (t : Table) (s : Pass) (w : ℕ) (b : w < t .n) (u : has eqb w (s .done) ≡ false) where
+module _ (t : Table) (s : Pass) (w : ℕ) (b : w < t .n) (u : has eqb w (s .sifted) ≡ false) where
   left : T (has eqb w (unsifted t s))
-  left = has-keep eqb eqb-equality (λ v. not (has eqb v (s .done))) w (upTo (t .n)) (has-upTo w (t .n) b) (to-not u)
+  left = has-keep eqb eqb-equality (λ v. not (has eqb v (s .sifted))) w (upTo (t .n)) (has-upTo w (t .n) b) (to-not u)
 
   pub next-most : nodesOf t (s .order) w ≤ nodesOf t (s .order) (next t s)
   unfolding next
@@ -114,7 +114,7 @@ module _ (t : Table) (s : Pass) (w : ℕ) (b : w < t .n) (u : has eqb w (s .done
   unfolding next
   next-lowest l =
       most-first (nodesOf t (s .order)) (unsifted t s)
-      (rising-keep (λ v. not (has eqb v (s .done))) (upTo (t .n)) (rising-upTo (t .n))) w left l
+      (rising-keep (λ v. not (has eqb v (s .sifted))) (upTo (t .n)) (rising-upTo (t .n))) w left l
 
 -- every turn
 
@@ -122,17 +122,17 @@ pub after-going : (t : Table) (order : List ℕ) → T (isOrder (t .n) order) �
 unfolding afterTurns
 after-going t order o zero h = record { valid = o; apart = tt; below = tt }
 after-going t order o (suc k) h =
-    turn-going t (afterTurns t k order) (omega (arith, after-done t k order)) (after-going t order o k (le-of-lt h))
+    turn-going t (afterTurns t k order) (omega (arith, after-sifted t k order)) (after-going t order o k (le-of-lt h))
 
 pub turn-below : (t : Table) (order : List ℕ) (k : ℕ) → k < t .n → next t (afterTurns t k order) < t .n
-turn-below t order k h = next-below t (afterTurns t k order) (omega (arith, after-done t k order))
+turn-below t order k h = next-below t (afterTurns t k order) (omega (arith, after-sifted t k order))
 
 pub turn-unsifted : (t : Table) (order : List ℕ) (k : ℕ) → k < t .n
-    → has eqb (next t (afterTurns t k order)) (afterTurns t k order .done) ≡ false
-turn-unsifted t order k h = next-unsifted t (afterTurns t k order) (omega (arith, after-done t k order))
+    → has eqb (next t (afterTurns t k order)) (afterTurns t k order .sifted) ≡ false
+turn-unsifted t order k h = next-unsifted t (afterTurns t k order) (omega (arith, after-sifted t k order))
 
 pub turn-least : (t : Table) (order : List ℕ) (k : ℕ) → k < t .n
-    → SiftedLeast t (next t (afterTurns t k order)) (afterTurns t (suc k) order .order)
+    → SiftedLeast t (next t (afterTurns t k order)) (afterTurns t (suc k) order .order) (cost t (afterTurns t (suc k) order .order))
 unfolding afterTurns turn
 turn-least t order k h = sifted t (next t (afterTurns t k order)) (afterTurns t k order .order) (turn-below t order k h)
 
@@ -209,16 +209,16 @@ limits t limit order = turns t limit order ∙ sym (turns-times t (allowed (t .n
 pub pass-going : (t : Table) (limit : ℕ) (order : List ℕ) → T (isOrder (t .n) order) → Going t (pass t limit order)
 pass-going t limit order o = rw (turns t limit order) (after-going t order o (allowed (t .n) limit) (allowed-le (t .n) limit))
 
-pub pass-done : (t : Table) (limit : ℕ) (order : List ℕ) → length (pass t limit order .done) ≡ allowed (t .n) limit
-pass-done t limit order = rw (turns t limit order) (after-done t (allowed (t .n) limit) order)
+pub pass-sifted : (t : Table) (limit : ℕ) (order : List ℕ) → length (pass t limit order .sifted) ≡ allowed (t .n) limit
+pass-sifted t limit order = rw (turns t limit order) (after-sifted t (allowed (t .n) limit) order)
 
-pub pass-tried : (t : Table) (limit : ℕ) (order : List ℕ) → pass t limit order .tried ≡ t .n * length (pass t limit order .done)
+pub pass-tried : (t : Table) (limit : ℕ) (order : List ℕ) → pass t limit order .tried ≡ t .n * length (pass t limit order .sifted)
 pass-tried t limit order =
     rw (turns t limit order)
     (omega (
       arith,
       after-tried t (allowed (t .n) limit) order,
-      ap (λ (k : ℕ). t .n * k) (after-done t (allowed (t .n) limit) order),
+      ap (λ (k : ℕ). t .n * k) (after-sifted t (allowed (t .n) limit) order),
     ))
 
 pub pass-within : (t : Table) (limit : ℕ) (order : List ℕ) → pass t limit order .tried ≤ limit
@@ -227,15 +227,17 @@ pass-within t limit order =
 
 -- where the limit has room for every turn, every variable is sifted
 pub pass-every : (t : Table) (limit : ℕ) (order : List ℕ) → T (isOrder (t .n) order) → t .n * t .n ≤ limit
-    → (v : ℕ) → v < t .n → T (has eqb v (pass t limit order .done))
+    → (v : ℕ) → v < t .n → T (has eqb v (pass t limit order .sifted))
 pass-every t limit order o w =
     let g : Going t (pass t limit order) = pass-going t limit order o in
-    none-missing (t .n) (pass t limit order .done) (g .apart) (g .below)
-    (pass-done t limit order ∙ allowed-only (t .n) limit (t .n) (le-refl (t .n)) w (λ l. absurd (omega arith)))
+    none-missing (t .n) (pass t limit order .sifted) (g .apart) (g .below)
+    (pass-sifted t limit order ∙ allowed-only (t .n) limit (t .n) (le-refl (t .n)) w (λ l. absurd (omega arith)))
 
 -- demand 3 at every turn, in the paper's words: the limits n × k name the turns
 pub turns-least : (t : Table) (order : List ℕ) → TurnsLeast t order
 unfolding TurnsLeast
 turns-least t order k h =
-    subst (λ (s : Pass). SiftedLeast t (next t s) (pass t (t .n * suc k) order .order)) (sym (turns-times t k order (le-of-lt h)))
-    (subst (λ (s : Pass). SiftedLeast t (next t (afterTurns t k order)) (s .order)) (sym (turns-times t (suc k) order h)) (turn-least t order k h))
+    let c : ℕ = cost t (orderAfter t order (suc k)) in
+    subst (λ (s : Pass). SiftedLeast t (next t s) (orderAfter t order (suc k)) c) (sym (turns-times t k order (le-of-lt h)))
+    (subst (λ (s : Pass). SiftedLeast t (next t (afterTurns t k order)) (s .order) (cost t (s .order)))
+    (sym (turns-times t (suc k) order h)) (turn-least t order k h))

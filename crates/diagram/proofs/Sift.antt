@@ -34,6 +34,6 @@ module _ (t : Table) (v : ℕ) (order : List ℕ) where
       subst (λ (xs : List ℕ). cost t (sift t v order) ≤ cost t xs) (sym (m .0)) (sift-cost (index eqb v other) (m .1))
 
 -- sifted: whatever diagram is taken for another place of v, it has at least as many nodes as the cost of the order left
-pub sifted : (t : Table) (v : ℕ) (order : List ℕ) → v < t .n → SiftedLeast t v (sift t v order)
+pub sifted : (t : Table) (v : ℕ) (order : List ℕ) → v < t .n → SiftedLeast t v (sift t v order) (cost t (sift t v order))
 unfolding Least SiftedLeast
 sifted t v order h other b D s = le-trans (sift-least t v order h other b) (least-cost t other (b .valid) D s)

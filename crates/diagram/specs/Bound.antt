@@ -15,11 +15,11 @@ bound inv zero k = 0
 bound inv (suc d) k = min k (classesOver inv (suc d) - classesOver inv d) + bound inv d (2 * k)
 
 -- the largest n, the largest m, and the most nodes they need
-unfoldable pub mostVariables : ℕ
+abbrev pub mostVariables : ℕ
 mostVariables = 10
 
-unfoldable pub mostOutputs : ℕ
+abbrev pub mostOutputs : ℕ
 mostOutputs = 16
 
-unfoldable pub mostNodes : ℕ
+abbrev pub mostNodes : ℕ
 mostNodes = 2159

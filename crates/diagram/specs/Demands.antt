@@ -31,13 +31,16 @@ pub record Beside (n v : ℕ) (order other : List ℕ) : Type 0 where
   pub valid : T (isOrder n other)
   pub others : without eqb v other ≡ without eqb v order
 
--- demand 3 after a sift of v that leaves this order: no other place of v is cheaper, whatever diagram is taken there
-unfoldable pub SiftedLeast : Table → ℕ → List ℕ → Type 0
-unfolding Least
-SiftedLeast t v left = (other : List ℕ) → Beside (t .n) v left other → Least true t other (cost t left)
+-- demand 3 after a sift of v that leaves this order at the cost c: no other place of v is cheaper, whatever diagram is taken there
+unfoldable pub SiftedLeast : Table → ℕ → List ℕ → ℕ → Type 0
+SiftedLeast t v left c = (other : List ℕ) → Beside (t .n) v left other → Least true t other c
 
--- demand 3 at every turn of a pass: 'the order just after the k-th sift of a pass is the one the same pass leaves under the limit n × k',
--- and the variable just sifted is the one that came next before it
+-- 'The order just after the k-th sift of a pass is the one the same pass leaves under the limit n × k'
+abbrev pub orderAfter : Table → List ℕ → ℕ → List ℕ
+orderAfter t order k = pass t (t .n * k) order .order
+
+-- demand 3 at every turn of a pass, where the variable just sifted is the one that came next before it
 unfoldable pub TurnsLeast : Table → List ℕ → Type 0
-unfolding SiftedLeast
-TurnsLeast t order = (k : ℕ) → k < t .n → SiftedLeast t (next t (pass t (t .n * k) order)) (pass t (t .n * suc k) order .order)
+TurnsLeast t order =
+    (k : ℕ) → k < t .n
+    → SiftedLeast t (next t (pass t (t .n * k) order)) (orderAfter t order (suc k)) (cost t (orderAfter t order (suc k)))

@@ -35,7 +35,7 @@ pub data Link : Type 0 where
   entry : ℕ → Bool → Link
 
 -- the entries after one candidate, and its link
-pub record Placed (d : ℕ) : Type 0 where
+pub record Linked (d : ℕ) : Type 0 where
   pub entries : List (Tree Row d)
   pub link : Link
 
@@ -44,11 +44,11 @@ pub record Level (d : ℕ) : Type 0 where
   pub entries : List (Tree Row d)
   pub links : List Link
 
-abbrev pub after : {d : ℕ} → Tree Row d → Placed d → Placed d
+abbrev pub after : {d : ℕ} → Tree Row d → Linked d → Linked d
 after g p = record { entries = g ∷ p .entries; link = p .link }
 
 -- steps 3 and 4, along the entries from number k on: the first that agrees, plain before inverted; else a new entry
-abbrev pub along : {d : ℕ} → Bool → ℕ → Tree Row d → List (Tree Row d) → Placed d
+abbrev pub along : {d : ℕ} → Bool → ℕ → Tree Row d → List (Tree Row d) → Linked d
 along inv k f [] = record { entries = f ∷ []; link = entry k false }
 along inv k f (g ∷ gs) =
     cond (agree false f g) (record { entries = merge false f g ∷ gs; link = entry k false })
@@ -56,7 +56,7 @@ along inv k f (g ∷ gs) =
     (after g (along inv (suc k) f gs)))
 
 -- steps 1 to 4: the constants, then the entries
-abbrev pub candidate : {d : ℕ} → Bool → Tree Row d → List (Tree Row d) → Placed d
+abbrev pub candidate : {d : ℕ} → Bool → Tree Row d → List (Tree Row d) → Linked d
 candidate inv f gs =
     cond (always false f) (record { entries = gs; link = const false })
     (cond (always true f) (record { entries = gs; link = const true }) (along inv 0 f gs))

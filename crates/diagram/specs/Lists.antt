@@ -56,9 +56,9 @@ upTo zero = []
 upTo (suc n) = upTo n ++ (n ∷ [])
 
 -- the number of n bits whose bit v is a v; bit 0 is the most significant
-abbrev pub number : ℕ → (ℕ → Bool) → ℕ
-number zero a = 0
-number (suc n) a = 2 * number n a + digit (a n)
+abbrev pub rowNumber : ℕ → (ℕ → Bool) → ℕ
+rowNumber zero a = 0
+rowNumber (suc n) a = 2 * rowNumber n a + digit (a n)
 
 -- bit v of a number of n bits; bit 0 is the most significant
 unfoldable pub bit : ℕ → ℕ → ℕ → Bool

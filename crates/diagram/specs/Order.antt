@@ -5,7 +5,7 @@ use mathlib.Core.List.{List, _∷_, _++_}
 use Prim.Native.Nat.{ℕ}
 use lib.Dec.{eqb, ltb}
 use lib.ListN.{length, getD, take, drop}
-use Rattle.diagram.specs.Lists.{all, distinct, index, without, number, bit}
+use Rattle.diagram.specs.Lists.{all, distinct, index, without, rowNumber, bit}
 
 -- each of the n variables once: n entries, each below n, none twice (law every-variable: none is missing)
 unfoldable pub isOrder : ℕ → List ℕ → Bool
@@ -17,7 +17,7 @@ rowUnder n order r p = bit n (getD order p 0) r
 
 -- the drawn row behind row s of the reordered table, whose most significant bit is the top level's
 unfoldable pub behind : ℕ → List ℕ → ℕ → ℕ
-behind n order s = number n (λ v. bit n (index eqb v order) s)
+behind n order s = rowNumber n (λ v. bit n (index eqb v order) s)
 
 -- the variable v moved to level p, the others in sequence
 unfoldable pub moved : ℕ → ℕ → List ℕ → List ℕ

@@ -41,12 +41,12 @@ most f (v ∷ vs) = mostOf f v vs
 -- a pass under way: the order, the variables sifted so far, the orders tried
 pub record Pass : Type 0 where
   pub order : List ℕ
-  pub done : List ℕ
+  pub sifted : List ℕ
   pub tried : ℕ
 
 -- the variables that are not sifted yet, lowest first
 abbrev pub unsifted : Table → Pass → List ℕ
-unsifted t s = keep (λ v. not (has eqb v (s .done))) (upTo (t .n))
+unsifted t s = keep (λ v. not (has eqb v (s .sifted))) (upTo (t .n))
 
 -- 'the unsifted input with most cells under the current order, lowest number on ties'
 unfoldable pub next : Table → Pass → ℕ
@@ -54,7 +54,7 @@ next t s = most (nodesOf t (s .order)) (unsifted t s)
 
 -- one variable sifted, by n trials
 unfoldable pub turn : Table → Pass → Pass
-turn t s = record { order = sift t (next t s) (s .order); done = next t s ∷ s .done; tried = s .tried + t .n }
+turn t s = record { order = sift t (next t s) (s .order); sifted = next t s ∷ s .sifted; tried = s .tried + t .n }
 
 -- at most k variables more: 'an input is not begun if its n trials would pass the limit'
 unfoldable pub sifting : Table → ℕ → ℕ → Pass → Pass
@@ -62,7 +62,7 @@ sifting t limit zero s = s
 sifting t limit (suc k) s = cond (leb (s .tried + t .n) limit) (sifting t limit k (turn t s)) s
 
 abbrev pub start : List ℕ → Pass
-start order = record { order = order; done = []; tried = 0 }
+start order = record { order = order; sifted = []; tried = 0 }
 
 -- 'A pass sifts each input once'
 unfoldable pub pass : Table → ℕ → List ℕ → Pass

@@ -10,7 +10,7 @@ use native.Mathlib.Omega.{arith}
 use lib.ListN.{length, take, drop, take-append-drop}
 use Rattle.diagram.specs.Lists.{digit}
 use Rattle.diagram.specs.Fill.{const, entry}
-use Rattle.fill.specs.Parts.{PlacedPart, afterPart, agreePart, alwaysPart, mergePart, alongParts, candidatePart, linkNumber, chunks, flat}
+use Rattle.fill.specs.Parts.{LinkedPart, afterPart, agreePart, alwaysPart, mergePart, alongParts, candidatePart, linkNumber, chunks, flat}
 use Rattle.fill.specs.Splice.{splice}
 use Rattle.fill.specs.Tried.{triedLink, triedPart}
 use Rattle.fill.proofs.Merged.{length-merge}
@@ -41,26 +41,26 @@ candidate-constant false w f gs h t = rw t
 candidate-constant true w f gs h t = let s = h refl in rw (s, t)
 
 -- entries put before those that a candidate is placed among
-abbrev ahead : List (List ℕ) → PlacedPart → PlacedPart
+abbrev ahead : List (List ℕ) → LinkedPart → LinkedPart
 ahead gs p = record { parts = gs ++ p .parts; link = p .link }
 
 -- what a placement comes to, as numbers and bytes: the region l holds the parts, and is as it was behind them
-abbrev pub Shown : ℕ → List ℕ → PlacedPart → ℕ → ℕ → List ℕ → Type 0
+abbrev pub Shown : ℕ → List ℕ → LinkedPart → ℕ → ℕ → List ℕ → Type 0
 Shown s l p n k m = (n ≡ length (p .parts)) × ((k ≡ linkNumber (p .link)) × (m ≡ flat (p .parts) ++ drop (length (p .parts) * s) l))
 
-shown-at : (s : ℕ) (l : List ℕ) (p : PlacedPart) (e n : ℕ) (x : List ℕ) (i : Bool) → length x ≡ s
+shown-at : (s : ℕ) (l : List ℕ) (p : LinkedPart) (e n : ℕ) (x : List ℕ) (i : Bool) → length x ≡ s
     → p ≡ record { parts = withPart s e n x l; link = entry e i } → Shown s l p (e + 1 + n) (linkNumber (entry e i)) (splice l (e * s) x)
 shown-at s l p e n x i h q =
-    subst (λ (y : PlacedPart). Shown s l y (e + 1 + n) (linkNumber (entry e i)) (splice l (e * s) x)) (sym q) (
+    subst (λ (y : LinkedPart). Shown s l y (e + 1 + n) (linkNumber (entry e i)) (splice l (e * s) x)) (sym q) (
       sym (length-with s e n x l),
       (refl, sym (flat-with s e n x l h) ∙ ap (λ (y : ℕ). flat (withPart s e n x l) ++ drop (y * s) l) (sym (length-with s e n x l))),
     )
 
 -- the parts as they were
-shown-const : (s : ℕ) (l : List ℕ) (p : PlacedPart) (k : ℕ) (v : Bool) → p ≡ record { parts = chunks s k l; link = const v }
+shown-const : (s : ℕ) (l : List ℕ) (p : LinkedPart) (k : ℕ) (v : Bool) → p ≡ record { parts = chunks s k l; link = const v }
     → Shown s l p k (digit v) l
 shown-const s l p k v q =
-    subst (λ (y : PlacedPart). Shown s l y k (digit v) l) (sym q) (
+    subst (λ (y : LinkedPart). Shown s l y k (digit v) l) (sym q) (
       sym (length-chunks s k l),
       (refl, sym (ap₂ (λ (y : List ℕ) (n : ℕ). y ++ drop (n * s) l) (flat-chunks s k l) (length-chunks s k l) ∙ take-append-drop (k * s) l)),
     )

@@ -10,7 +10,7 @@ use lib.ListN.{length, length-append}
 use Rattle.diagram.proofs.Bools.{and-l, and-r}
 use Rattle.fill.specs.Pack.{width}
 use Rattle.fill.specs.Parts.{halfParts}
-use Rattle.fill.specs.Work.{linkBytes, joined}
+use Rattle.fill.specs.Work.{linkBytes, allLinks}
 use Rattle.fill.specs.Descent.{levelBelow, linksBelow, countsBelow, roomy}
 use Rattle.fill.proofs.Long.{Long, level-grown, level-links, links-append, long-halves, length-halves}
 use Rattle.fill.proofs.Written.{Fit}
@@ -25,8 +25,8 @@ unfolding countsBelow
 counts-suc d parts = refl
 
 pub joined-suc : (d : ℕ) (parts : List (List ℕ))
-    → joined (linksBelow (suc d) parts) ≡ levelBelow d parts .links ++ joined (linksBelow d (levelBelow d parts .parts))
-joined-suc d parts = ap joined (links-suc d parts)
+    → allLinks (linksBelow (suc d) parts) ≡ levelBelow d parts .links ++ allLinks (linksBelow d (levelBelow d parts .parts))
+joined-suc d parts = ap allLinks (links-suc d parts)
 
 pub record Room (d : ℕ) (parts : List (List ℕ)) : Type 0 where
   pub here : length parts * (width (suc d) + width (suc d)) ≤ 4096
@@ -60,16 +60,16 @@ pub links-two : (d : ℕ) (parts : List (List ℕ)) → length (levelBelow d par
 links-two d parts = level-links (width d) [] (halfParts d parts) ∙ length-halves d parts
 
 pub links-length : (d : ℕ) (parts : List (List ℕ))
-    → length (joined (linksBelow (suc d) parts)) ≡ (length parts + length parts) + length (joined (linksBelow d (levelBelow d parts .parts)))
+    → length (allLinks (linksBelow (suc d) parts)) ≡ (length parts + length parts) + length (allLinks (linksBelow d (levelBelow d parts .parts)))
 links-length d parts =
     let l = levelBelow d parts in
-    ap length (joined-suc d parts) ∙ length-append (l .links) (joined (linksBelow d (l .parts)))
-    ∙ ap (λ (y : ℕ). y + length (joined (linksBelow d (l .parts)))) (links-two d parts)
+    ap length (joined-suc d parts) ∙ length-append (l .links) (allLinks (linksBelow d (l .parts)))
+    ∙ ap (λ (y : ℕ). y + length (allLinks (linksBelow d (l .parts)))) (links-two d parts)
 
 pub bytes-suc : (d : ℕ) (parts : List (List ℕ))
-    → linkBytes (joined (linksBelow (suc d) parts))
-    ≡ linkBytes (levelBelow d parts .links) ++ linkBytes (joined (linksBelow d (levelBelow d parts .parts)))
-bytes-suc d parts = ap linkBytes (joined-suc d parts) ∙ links-append (levelBelow d parts .links) (joined (linksBelow d (levelBelow d parts .parts)))
+    → linkBytes (allLinks (linksBelow (suc d) parts))
+    ≡ linkBytes (levelBelow d parts .links) ++ linkBytes (allLinks (linksBelow d (levelBelow d parts .parts)))
+bytes-suc d parts = ap linkBytes (joined-suc d parts) ∙ links-append (levelBelow d parts .links) (allLinks (linksBelow d (levelBelow d parts .parts)))
 
 -- the next level's entries, of which there are at most two each
 pub level-fits : (d : ℕ) (parts : List (List ℕ)) → Long (width (suc d) + width (suc d)) parts → Room d parts

@@ -18,7 +18,7 @@ use Rattle.table.specs.Stream.{sum}
 use Rattle.table.proofs.Sums.{sum-add, sum-cong}
 use Rattle.fill.specs.Pack.{width}
 use Rattle.fill.specs.Parts.{alwaysPart, agreePart, alongParts, candidatePart, levelParts, linkNumber, halfParts}
-use Rattle.fill.specs.Work.{linkBytes, joined}
+use Rattle.fill.specs.Work.{linkBytes, allLinks}
 use Rattle.fill.specs.Descent.{levelBelow, linksBelow, countsBelow, roomy}
 use Rattle.fill.specs.Counts.{pairDiffers, differingPairs, countsAt, linksEnd}
 use Rattle.fill.proofs.Halved.{width-pos}
@@ -146,7 +146,7 @@ counts-none : (work : List ℕ) (at : ℕ) (parts : List (List ℕ)) → countsA
 unfolding countsBelow linksBelow
 counts-none work at parts = refl
 
-end-none : (at : ℕ) (parts : List (List ℕ)) → linksEnd at (countsBelow zero parts) ≡ at + 2 * length (joined (linksBelow zero parts))
+end-none : (at : ℕ) (parts : List (List ℕ)) → linksEnd at (countsBelow zero parts) ≡ at + 2 * length (allLinks (linksBelow zero parts))
 unfolding countsBelow linksBelow
 end-none at parts = omega arith
 
@@ -163,17 +163,17 @@ below-under d parts h r =
     under-more (omega arith) (levelBelow d parts .links) (level-under (width d) [] (halfParts d parts) tt (long-halves d parts h))
 
 pub counts-below : (work : List ℕ) (d at : ℕ) (parts : List (List ℕ)) (rest : List ℕ) → Long (width d + width d) parts → T (roomy d parts)
-    → drop at work ≡ linkBytes (joined (linksBelow d parts)) ++ rest
+    → drop at work ≡ linkBytes (allLinks (linksBelow d parts)) ++ rest
     → countsAt work at (countsBelow d parts) ≡ map differing (linksBelow d parts)
 counts-below work zero at parts rest h t e = counts-none work at parts
 counts-below work (suc d) at parts rest h t e =
     let l = levelBelow d parts in
     let k = length parts in
     let r = room-suc d parts t in
-    let more = linkBytes (joined (linksBelow d (l .parts))) ++ rest in
+    let more = linkBytes (allLinks (linksBelow d (l .parts))) ++ rest in
     let here : drop at work ≡ linkBytes (l .links) ++ more =
     e ∙ ap (λ (y : List ℕ). y ++ rest) (bytes-suc d parts)
-    ∙ append-assoc (linkBytes (l .links)) (linkBytes (joined (linksBelow d (l .parts)))) rest in
+    ∙ append-assoc (linkBytes (l .links)) (linkBytes (allLinks (linksBelow d (l .parts)))) rest in
     let size : length (linkBytes (l .links)) ≡ 4 * k = omega (arith, length-links (l .links), links-two d parts) in
     ap (countsAt work at) (counts-suc d parts)
     ∙ ap₂ (λ (x : ℕ) (xs : List ℕ). x ∷ xs)
@@ -183,7 +183,7 @@ counts-below work (suc d) at parts rest h t e =
     ∙ sym (ap (map differing) (links-suc d parts))
 
 -- where they end
-pub end-below : (d at : ℕ) (parts : List (List ℕ)) → linksEnd at (countsBelow d parts) ≡ at + 2 * length (joined (linksBelow d parts))
+pub end-below : (d at : ℕ) (parts : List (List ℕ)) → linksEnd at (countsBelow d parts) ≡ at + 2 * length (allLinks (linksBelow d parts))
 end-below zero at parts = end-none at parts
 end-below (suc d) at parts =
     let l = levelBelow d parts in

@@ -10,7 +10,7 @@ use lib.Dec.{T}
 use lib.ListN.{length, set, drop, replicate, length-append, length-drop}
 use lib.Seq.{length-take-le}
 use Rattle.fill.specs.Pack.{width}
-use Rattle.fill.specs.Work.{linksAt, linkBytes, joined}
+use Rattle.fill.specs.Work.{linksAt, linkBytes, allLinks}
 use Rattle.fill.specs.Splice.{splice}
 use Rattle.fill.specs.Level.{partsAt, written}
 use Rattle.fill.specs.Calls.{tenOf}
@@ -34,15 +34,15 @@ pub record Going (n : ℕ) (all : List (List ℕ)) (before work : List ℕ) (d f
   pub buffer : m ≡ holding from parts bytes work
   pub ends : links ≡ 8192 + length bytes
   pub room : T (roomy d parts)
-  pub links-room : links + 2 * length (joined (linksBelow d parts)) ≤ 32768
-  pub all-bytes : bytes ++ linkBytes (joined (linksBelow d parts)) ≡ before ++ linkBytes (joined (linksBelow n all))
+  pub links-room : links + 2 * length (allLinks (linksBelow d parts)) ≤ 32768
+  pub all-bytes : bytes ++ linkBytes (allLinks (linksBelow d parts)) ≡ before ++ linkBytes (allLinks (linksBelow n all))
   pub all-counts : passed ++ countsBelow d parts ≡ countsBelow n all
   pub levels : length passed + d ≡ n
   pub recorded : entries ≡ tenOf passed
 
 module _ (n : ℕ) (all : List (List ℕ)) (before work : List ℕ) (big : 32768 ≤ length work) where
   pub going-first : (count links : ℕ) → all ≡ partsAt n count 0 work → before ≡ linksUpTo links work → 8192 ≤ links
-      → work ≡ holding 0 all before work → T (roomy n all) → links + 2 * length (joined (linksBelow n all)) ≤ 32768
+      → work ≡ holding 0 all before work → T (roomy n all) → links + 2 * length (allLinks (linksBelow n all)) ≤ 32768
       → Going n all before work n 0 links count work (tenOf [])
   unfolding linksAt
   going-first count links p q h b r e =
@@ -68,14 +68,14 @@ module _ (n : ℕ) (all : List (List ℕ)) (before work : List ℕ) (big : 32768
 
   -- no variable is left, so no entry is
   pub going-last : (from links k : ℕ) (m entries : List ℕ) → Going n all before work 0 from links k m entries
-      → (entries ≡ tenOf (countsBelow n all)) × (m ≡ holding 0 [] (before ++ linkBytes (joined (linksBelow n all))) work)
+      → (entries ≡ tenOf (countsBelow n all)) × (m ≡ holding 0 [] (before ++ linkBytes (allLinks (linksBelow n all))) work)
   unfolding linksBelow countsBelow
   going-last from links k m entries g = (
     g .recorded ∙ ap tenOf (sym (append-nil (g .passed)) ∙ g .all-counts),
     g .buffer
         ∙ ap₂ (λ (p : List (List ℕ)) (b : List ℕ). holding from p b work) (none-left (g .parts) (g .room))
         (sym (append-nil (g .bytes)) ∙ g .all-bytes)
-        ∙ held-none work big from (before ++ linkBytes (joined (linksBelow n all))),
+        ∙ held-none work big from (before ++ linkBytes (allLinks (linksBelow n all))),
   )
 
   module _ (d from links k : ℕ) (m entries : List ℕ) (g : Going n all before work (suc d) from links k m entries) where
@@ -144,7 +144,7 @@ module _ (n : ℕ) (all : List (List ℕ)) (before work : List ℕ) (big : 32768
           room = going-room .below;
           links-room = omega (arith, g .links-room);
           all-bytes =
-              append-assoc (g .bytes) (linkBytes (l .links)) (linkBytes (joined (linksBelow d (l .parts))))
+              append-assoc (g .bytes) (linkBytes (l .links)) (linkBytes (allLinks (linksBelow d (l .parts))))
               ∙ ap (λ (y : List ℕ). g .bytes ++ y) (sym (bytes-suc d ps))
               ∙ g .all-bytes;
           all-counts =

@@ -26,10 +26,10 @@ use Rattle.table.specs.Calls.{over}
 use Rattle.table.proofs.Answers.{stream-small}
 use Rattle.fill.specs.Pack.{width, encode}
 use Rattle.fill.specs.Parts.{LevelParts, levelParts, flat}
-use Rattle.fill.specs.Work.{linksAt, linkBytes, joined, zeroWork, traceWork}
+use Rattle.fill.specs.Work.{linksAt, linkBytes, allLinks, zeroWork, traceWork}
 use Rattle.fill.specs.Splice.{splice}
 use Rattle.fill.specs.Level.{partsAt, written}
-use Rattle.fill.specs.Gather.{rowOf, placesOf, gatheredPart}
+use Rattle.fill.specs.Gather.{rowOf, variableLevels, gatheredPart}
 use Rattle.fill.specs.Calls.{tenOf, entryCounts}
 use Rattle.fill.specs.Descent.{linksBelow, countsBelow, roomy, holding, linksUpTo}
 use Rattle.fill.specs.Counts.{countsAt, linksEnd}
@@ -52,7 +52,7 @@ unfolding tracedCounts
 counts-traced n fs = sym (traced-counts true n fs) ∙ ap tracedCounts (trace-bytes n fs)
 
 -- the outputs as they are gathered
-pub outputs-encode : (n m : ℕ) (values care order rows l : List ℕ) → n ≤ 10 → rows ≡ over (rowOf n (placesOf n order)) (2 ^ n) l
+pub outputs-encode : (n m : ℕ) (values care order rows l : List ℕ) → n ≤ 10 → rows ≡ over (rowOf n (variableLevels n order)) (2 ^ n) l
     → map (gatheredPart values care rows n) (upTo m) ≡ map encode (map (reordered (tableOf n m values care) (take n order)) (upTo m))
 outputs-encode n m values care order rows l small e =
     map-upTo-cong m (gatheredPart values care rows n) (λ j. encode (reordered (tableOf n m values care) (take n order) j))
@@ -87,18 +87,18 @@ module _ {n : ℕ} (fs : List (Tree Row n)) (small : n ≤ 10) (few : length fs 
   links-size : length (linkBytes (linksOf true fs)) ≡ 2 * length fs
   links-size = length-links (linksOf true fs) ∙ ap (λ (k : ℕ). 2 * k) (links-length true [] fs)
 
-  trace-links : linkBytes (joined (trace true n fs)) ≡ linkBytes (linksOf true fs) ++ linkBytes (joined (linksBelow n (partsOf fs)))
+  trace-links : linkBytes (allLinks (trace true n fs)) ≡ linkBytes (linksOf true fs) ++ linkBytes (allLinks (linksBelow n (partsOf fs)))
   trace-links =
-      ap (λ (y : List (List Link)). linkBytes (joined y)) (trace-bytes n fs) ∙ links-append (linksOf true fs) (joined (linksBelow n (partsOf fs)))
+      ap (λ (y : List (List Link)). linkBytes (allLinks y)) (trace-bytes n fs) ∙ links-append (linksOf true fs) (allLinks (linksBelow n (partsOf fs)))
 
-  pub trace-size : 8192 + length (linkBytes (joined (trace true n fs))) ≤ 32768
-  trace-size = omega (arith, length-links (joined (trace true n fs)), links-room n fs small few)
+  pub trace-size : 8192 + length (linkBytes (allLinks (trace true n fs))) ≤ 32768
+  trace-size = omega (arith, length-links (allLinks (trace true n fs)), links-room n fs small few)
 
   -- below level 0 there are no more
-  links-few : length (joined (linksBelow n (partsOf fs))) ≤ 4350
+  links-few : length (allLinks (linksBelow n (partsOf fs))) ≤ 4350
   links-few =
-      let y = joined (linksBelow n (partsOf fs)) in
-      omega (arith, ap (λ (l : List (List Link)). length (joined l)) (trace-bytes n fs), length-append (linksOf true fs) y, links-room n fs small few)
+      let y = allLinks (linksBelow n (partsOf fs)) in
+      omega (arith, ap (λ (l : List (List Link)). length (allLinks l)) (trace-bytes n fs), length-append (linksOf true fs) y, links-room n fs small few)
 
   -- after level 0 there are so many entries, the next link goes to `links`, and m is the work buffer
   module _ (work : List ℕ) (big : 32768 ≤ length work) (k links : ℕ) (m : List ℕ) (many : k ≡ length (entriesOf fs))
@@ -121,29 +121,29 @@ module _ {n : ℕ} (fs : List (Tree Row n)) (small : n ≤ 10) (few : length fs 
 
     -- what the way down asks
     pub descend-asks : (m ≡ holding 0 (partsAt n k 0 m) (linksUpTo links m) m)
-        × (T (roomy n (partsAt n k 0 m)) × (links + 2 * length (joined (linksBelow n (partsAt n k 0 m))) ≤ 32768))
+        × (T (roomy n (partsAt n k 0 m)) × (links + 2 * length (allLinks (linksBelow n (partsAt n k 0 m))) ≤ 32768))
     descend-asks = (
       is
           ∙ sym (holding-past 0 (partsOf fs) (linkBytes (linksOf true fs)) m work past)
           ∙ sym (ap₂ (λ (p : List (List ℕ)) (b : List ℕ). holding 0 p b m) parts-read links-read),
       (
         subst (λ (p : List (List ℕ)). T (roomy n p)) (sym parts-read) roomy-parts,
-        subst (λ (p : List (List ℕ)). links + 2 * length (joined (linksBelow n p)) ≤ 32768) (sym parts-read)
+        subst (λ (p : List (List ℕ)). links + 2 * length (allLinks (linksBelow n p)) ≤ 32768) (sym parts-read)
             (omega (arith, links-few)),
       ),
     )
 
     -- what it leaves: the entries of each level, and the links
     module _ (entries m′ : List ℕ) (entries-are : entries ≡ tenOf (countsBelow n (partsAt n k 0 m)))
-        (left : m′ ≡ holding 0 [] (linksUpTo links m ++ linkBytes (joined (linksBelow n (partsAt n k 0 m)))) m) where
+        (left : m′ ≡ holding 0 [] (linksUpTo links m ++ linkBytes (allLinks (linksBelow n (partsAt n k 0 m)))) m) where
       pub entries-filled : entries ≡ tenOf (entryCounts n fs)
       entries-filled = entries-are ∙ ap (λ (p : List (List ℕ)). tenOf (countsBelow n p)) parts-read ∙ ap tenOf (sym (counts-bytes n fs))
 
-      left-is : m′ ≡ holding 0 [] (linkBytes (linksOf true fs) ++ linkBytes (joined (linksBelow n (partsOf fs)))) work
+      left-is : m′ ≡ holding 0 [] (linkBytes (linksOf true fs) ++ linkBytes (allLinks (linksBelow n (partsOf fs)))) work
       left-is =
           left
-          ∙ ap₂ (λ (p : List (List ℕ)) (b : List ℕ). holding 0 [] (b ++ linkBytes (joined (linksBelow n p))) m) parts-read links-read
-          ∙ holding-past 0 [] (linkBytes (linksOf true fs) ++ linkBytes (joined (linksBelow n (partsOf fs)))) m work past
+          ∙ ap₂ (λ (p : List (List ℕ)) (b : List ℕ). holding 0 [] (b ++ linkBytes (allLinks (linksBelow n p))) m) parts-read links-read
+          ∙ holding-past 0 [] (linkBytes (linksOf true fs) ++ linkBytes (allLinks (linksBelow n (partsOf fs)))) m work past
 
       pub left-filled : m′ ≡ traceWork (trace true n fs) work
       left-filled =
@@ -162,7 +162,7 @@ module _ {n : ℕ} (fs : List (Tree Row n)) (small : n ≤ 10) (few : length fs 
       counts-filled cs e =
           let (rest, behind) =
           held-behind work big 2 0 [] (linkBytes (linksOf true fs)) (tt, omega arith) (inl refl)
-          (linkBytes (joined (linksBelow n (partsOf fs)))) links ends′ in
+          (linkBytes (allLinks (linksBelow n (partsOf fs)))) links ends′ in
           e
           ∙ ap tenOf
           (ap (countsAt m′ links) levels-taken
@@ -172,7 +172,6 @@ module _ {n : ℕ} (fs : List (Tree Row n)) (small : n ≤ 10) (few : length fs 
 -- the cells in all
 pub cells-filled : {n : ℕ} (fs : List (Tree Row n)) (cs : List ℕ) → n ≤ 10 → length fs ≤ 16 → cs ≡ tenOf (counts true n (fill true n fs))
     → (sum _+_ 0 cs ≡ count true n (fill true n fs)) × (sum _+_ 0 cs ≤ 65535)
-unfolding mostVariables mostOutputs mostNodes
 cells-filled {n} fs cs small few e =
     let ts = fill true n fs in
     let a : sum _+_ 0 cs ≡ count true n ts =

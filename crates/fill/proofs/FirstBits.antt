@@ -7,14 +7,14 @@ use native.Mathlib.Nat.{lt-of-lt-of-le}
 use native.Mathlib.Numerals.{add-one}
 use lib.ListN.{getD}
 use lib.Pow.{pow-mono}
-use Rattle.diagram.specs.Lists.{digit, number, bit}
+use Rattle.diagram.specs.Lists.{digit, rowNumber, bit}
 use Rattle.diagram.proofs.Bits.{number-lt}
 use Rattle.fill.specs.Gather.{rowOf}
 
 -- the first v bits of the drawn row behind row s
 module _ (places : List ℕ) (n s : ℕ) where
   abbrev pub firstBits : ℕ → ℕ
-  firstBits v = number v (λ w. bit n (getD places w 0) s)
+  firstBits v = rowNumber v (λ w. bit n (getD places w 0) s)
 
   pub bits-room : (v : ℕ) → v ≤ 10 → firstBits v < 1024
   bits-room v h = lt-of-lt-of-le (number-lt v (λ w. bit n (getD places w 0) s)) (pow-mono {j = 10} h)

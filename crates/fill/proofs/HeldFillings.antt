@@ -16,7 +16,7 @@ use Rattle.table.specs.declared.Answer.the-variants.{Done}
 use Rattle.table.specs.declared.State.{State}
 use Rattle.table.specs.State.{orderOf, stageOf, isNothing}
 use Rattle.table.proofs.Held.{few-inputs, few-outputs}
-use Rattle.fill.specs.Work.{linkBytes, joined, zeroWork}
+use Rattle.fill.specs.Work.{linkBytes, allLinks, zeroWork}
 use Rattle.fill.specs.Level.{partsAt}
 use Rattle.fill.specs.Calls.{heldTable, drawnOutputs, tenOf}
 use Rattle.fill.specs.Descent.{linksBelow, countsBelow, roomy, holding, linksUpTo}
@@ -39,7 +39,7 @@ module _ (s : State) (values care : List ℕ) (held : T (not (isNothing (stageOf
       let kss = trace true (s .n) (drawnOutputs s values care) in
       let size = trace-size (drawnOutputs s values care) (few-inputs s held) few in
       ap zeroWork (sym (held-trace work big kss size))
-      ∙ held-past work big 2 0 [] (linkBytes (joined kss)) (tt, omega arith) (inl refl) size
+      ∙ held-past work big 2 0 [] (linkBytes (allLinks kss)) (tt, omega arith) (inl refl) size
 
   module _ (work : List ℕ) (big : 32768 ≤ length work) (k : ℕ) (m : List ℕ)
       (many : k ≡ length (level true [] (drawnOutputs s values care) .entries)) (is : m ≡ firstWork s values care work) where
@@ -47,13 +47,13 @@ module _ (s : State) (values care : List ℕ) (held : T (not (isNothing (stageOf
     ends = omega (arith, outputs)
 
     pub asks : (m ≡ holding 0 (partsAt (s .n) k 0 m) (linksUpTo (8192 + 2 * s .m) m) m)
-        × (T (roomy (s .n) (partsAt (s .n) k 0 m)) × (8192 + 2 * s .m + 2 * length (joined (linksBelow (s .n) (partsAt (s .n) k 0 m))) ≤ 32768))
+        × (T (roomy (s .n) (partsAt (s .n) k 0 m)) × (8192 + 2 * s .m + 2 * length (allLinks (linksBelow (s .n) (partsAt (s .n) k 0 m))) ≤ 32768))
     unfolding firstWork
     asks = descend-asks (drawnOutputs s values care) (few-inputs s held) few work big k (8192 + 2 * s .m) m many ends is
 
     module _ (entries m′ : List ℕ) (entries-are : entries ≡ tenOf (countsBelow (s .n) (partsAt (s .n) k 0 m)))
         (left : m′
-        ≡ holding 0 [] (linksUpTo (8192 + 2 * s .m) m ++ linkBytes (joined (linksBelow (s .n) (partsAt (s .n) k 0 m)))) m) where
+        ≡ holding 0 [] (linksUpTo (8192 + 2 * s .m) m ++ linkBytes (allLinks (linksBelow (s .n) (partsAt (s .n) k 0 m)))) m) where
       pub left-held : m′ ≡ filledWork s values care work
       unfolding firstWork filledWork
       left-held =

@@ -10,7 +10,7 @@ use lib.ListN.{length, take, drop, replicate, length-append, length-drop, length
 use lib.Seq.{take-at, drop-at, drop-drop}
 use Rattle.diagram.specs.Fill.{Link}
 use Rattle.fill.specs.Parts.{LevelParts, chunks, flat}
-use Rattle.fill.specs.Work.{workSize, linksAt, linkBytes, joined, zeroWork, traceWork}
+use Rattle.fill.specs.Work.{workSize, linksAt, linkBytes, allLinks, zeroWork, traceWork}
 use Rattle.fill.specs.Splice.{splice}
 use Rattle.fill.specs.Level.{written}
 use Rattle.fill.specs.Descent.{holding, linksUpTo}
@@ -184,11 +184,11 @@ module _ (work : List ℕ) (big : 32768 ≤ length work) where
   held-none from bytes =
       ap (λ (m : List ℕ). splice m linksAt bytes) (splice-none (zeroWork work) from ∙ sym (splice-none (zeroWork work) 0))
 
-  pub held-trace : (kss : List (List Link)) → 8192 + length (linkBytes (joined kss)) ≤ 32768
-      → holding 0 [] (linkBytes (joined kss)) work ≡ traceWork kss work
+  pub held-trace : (kss : List (List Link)) → 8192 + length (linkBytes (allLinks kss)) ≤ 32768
+      → holding 0 [] (linkBytes (allLinks kss)) work ≡ traceWork kss work
   unfolding holding zeroWork traceWork linksAt splice
   held-trace kss h =
-      let x = linkBytes (joined kss) in
+      let x = linkBytes (allLinks kss) in
       let r = drop workSize work in
       let n : workSize - (8192 + length x) ≡ workSize - 8192 - length x = omega arith in
       ap (λ (m : List ℕ). splice m 8192 x) (splice-none (replicate workSize 0 ++ r) 0)

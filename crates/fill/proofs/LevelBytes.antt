@@ -9,16 +9,16 @@ use native.Mathlib.Omega.{arith}
 use lib.ListN.{length, take, drop, length-append}
 use lib.Seq.{take-at, drop-at}
 use Rattle.diagram.specs.Tree.{Tree}
-use Rattle.diagram.specs.Fill.{Row, always, agree, Placed, Level, along, candidate, level}
+use Rattle.diagram.specs.Fill.{Row, always, agree, Linked, Level, along, candidate, level}
 use Rattle.diagram.proofs.Bools.{split}
 use Rattle.fill.specs.Pack.{width, encode, store}
-use Rattle.fill.specs.Parts.{PlacedPart, LevelParts, afterPart, alongParts, candidatePart, levelParts, chunks, flat}
+use Rattle.fill.specs.Parts.{LinkedPart, LevelParts, afterPart, alongParts, candidatePart, levelParts, chunks, flat}
 use Rattle.fill.proofs.PackLaws.{encode-length}
 use Rattle.fill.proofs.Agree.{always-bytes, agree-bytes, merge-bytes}
 
 -- what one candidate leaves, and what a level does, with the entries as parts
 
-abbrev pub placedPart : {d : ℕ} → Placed d → PlacedPart
+abbrev pub placedPart : {d : ℕ} → Linked d → LinkedPart
 placedPart p = record { parts = map encode (p .entries); link = p .link }
 
 abbrev pub levelPart : {d : ℕ} → Level d → LevelParts

@@ -23,7 +23,7 @@ pub mod LinksRoom
 pub mod Long
 pub mod Masked
 pub mod Merged
-pub mod OutputsPlaced
+pub mod OutputsLinked
 pub mod Overwritten
 pub mod PackLaws
 pub mod Planes

@@ -13,7 +13,7 @@ use Rattle.diagram.specs.Fill.{Row, level, trace}
 use Rattle.diagram.proofs.Tree.{length-halves}
 use Rattle.diagram.proofs.Fill.{links-length, trace-zero, trace-suc}
 use Rattle.diagram.proofs.Numbers.{all-upTo-at}
-use Rattle.fill.specs.Work.{joined}
+use Rattle.fill.specs.Work.{allLinks}
 use Rattle.fill.proofs.Room.{entries-candidates, entries-most}
 
 -- the most links from a level on, where d variables are left and its candidates are k: one a candidate, and two an entry of it,
@@ -29,7 +29,7 @@ mostLinks-mono (suc d) {k} h =
     let c = 2 ^ (2 ^ suc d - 1) - 1 in
     add-le-add h (mostLinks-mono d (mul-le-mul-left 2 (le-min (le-trans (min-le-left k c) h) (min-le-right k c))))
 
-links-bounded : (d : ℕ) (fs : List (Tree Row d)) → length (joined (trace true d fs)) ≤ mostLinks d (length fs)
+links-bounded : (d : ℕ) (fs : List (Tree Row d)) → length (allLinks (trace true d fs)) ≤ mostLinks d (length fs)
 unfolding mostLinks
 links-bounded zero fs =
     rw (trace-zero true fs) (omega (arith, length-append (level true [] fs .links) [], links-length true [] fs))
@@ -42,7 +42,7 @@ links-bounded (suc d) fs =
     rw (trace-suc true d fs)
     (omega (
       arith,
-      length-append (level true [] fs .links) (joined (trace true d (halves es))),
+      length-append (level true [] fs .links) (allLinks (trace true d (halves es))),
       links-length true [] fs,
       links-bounded d (halves es),
       mostLinks-mono d most,
@@ -53,7 +53,7 @@ rooms-hold : T (all (λ n. leb (mostLinks n 16) 4350) (upTo 11))
 unfolding mostLinks
 rooms-hold = tt
 
-pub links-room : (n : ℕ) (fs : List (Tree Row n)) → n ≤ 10 → length fs ≤ 16 → length (joined (trace true n fs)) ≤ 4350
+pub links-room : (n : ℕ) (fs : List (Tree Row n)) → n ≤ 10 → length fs ≤ 16 → length (allLinks (trace true n fs)) ≤ 4350
 links-room n fs h k =
     le-trans (le-trans (links-bounded n fs) (mostLinks-mono n k))
     (leb→le (mostLinks n 16) 4350 (all-upTo-at (λ i. leb (mostLinks i 16) 4350) 11 rooms-hold n (suc-le-suc h)))

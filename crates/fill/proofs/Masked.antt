@@ -7,7 +7,7 @@ use Prim.Native.Nat.{ℕ, zero, suc, _+_, _*_}
 use lib.ListN.{length, length-map}
 use Rattle.diagram.specs.Lists.{flip}
 use Rattle.diagram.specs.Tree.{Tree, leaf, node, draw, half, halves, pairs}
-use Rattle.diagram.specs.Fill.{Row, always, agree, merge, Link, Placed, Level, after, then, along, candidate, level, follow, settled, fill, trace}
+use Rattle.diagram.specs.Fill.{Row, always, agree, merge, Link, Linked, Level, after, then, along, candidate, level, follow, settled, fill, trace}
 use Rattle.diagram.proofs.Bools.{split}
 use Rattle.diagram.proofs.Fill.{fill-zero, fill-suc, trace-zero, trace-suc}
 use Rattle.fill.specs.Calls.{entryCounts}
@@ -50,7 +50,7 @@ merge-masked i (node l h) (node l′ h′) = ap₂ node (merge-masked i l l′) 
 
 -- one candidate, and a level
 
-abbrev maskedPlaced : {d : ℕ} → Placed d → Placed d
+abbrev maskedPlaced : {d : ℕ} → Linked d → Linked d
 maskedPlaced p = record { entries = map masked (p .entries); link = p .link }
 
 abbrev maskedLevel : {d : ℕ} → Level d → Level d
@@ -64,7 +64,7 @@ along-masked {d} inv k f (g ∷ gs) =
     (split (agree false f g) (λ e. rw e)
     (λ e. rw e
     (split (inv && agree true f g) (λ q. rw q)
-    (λ q. rw q (ap (λ (p : Placed d). after (masked g) p) (along-masked inv (suc k) f gs))))))
+    (λ q. rw q (ap (λ (p : Linked d). after (masked g) p) (along-masked inv (suc k) f gs))))))
 
 candidate-masked : {d : ℕ} (inv : Bool) (f : Tree Row d) (gs : List (Tree Row d))
     → candidate inv (masked f) (map masked gs) ≡ maskedPlaced (candidate inv f gs)

@@ -31,21 +31,21 @@ mergePart i w f g =
     ++ map (λ j. bitOr (careByte w f j) (careByte w g j)) (upTo w)
 
 -- the entries' parts after one candidate, and its link
-pub record PlacedPart : Type 0 where
+pub record LinkedPart : Type 0 where
   pub parts : List (List ℕ)
   pub link : Link
 
-abbrev pub afterPart : List ℕ → PlacedPart → PlacedPart
+abbrev pub afterPart : List ℕ → LinkedPart → LinkedPart
 afterPart g p = record { parts = g ∷ p .parts; link = p .link }
 
-unfoldable pub alongParts : ℕ → ℕ → List ℕ → List (List ℕ) → PlacedPart
+unfoldable pub alongParts : ℕ → ℕ → List ℕ → List (List ℕ) → LinkedPart
 alongParts w k f [] = record { parts = f ∷ []; link = entry k false }
 alongParts w k f (g ∷ gs) =
     cond (agreePart false w f g) (record { parts = mergePart false w f g ∷ gs; link = entry k false })
     (cond (agreePart true w f g) (record { parts = mergePart true w f g ∷ gs; link = entry k true })
     (afterPart g (alongParts w (suc k) f gs)))
 
-unfoldable pub candidatePart : ℕ → List ℕ → List (List ℕ) → PlacedPart
+unfoldable pub candidatePart : ℕ → List ℕ → List (List ℕ) → LinkedPart
 candidatePart w f gs =
     cond (alwaysPart false w f) (record { parts = gs; link = const false })
     (cond (alwaysPart true w f) (record { parts = gs; link = const true }) (alongParts w 0 f gs))

@@ -23,15 +23,15 @@ abbrev pub linkBytes : List Link → List ℕ
 linkBytes [] = []
 linkBytes (k ∷ ks) = linkNumber k % 256 ∷ linkNumber k / 256 % 256 ∷ linkBytes ks
 
-abbrev pub joined : List (List Link) → List Link
-joined [] = []
-joined (ks ∷ kss) = ks ++ joined kss
+abbrev pub allLinks : List (List Link) → List Link
+allLinks [] = []
+allLinks (ks ∷ kss) = ks ++ allLinks kss
 
 -- a work buffer that holds the links of a filling and nothing else; what lies past its size is as it was
 unfoldable pub traceWork : List (List Link) → List ℕ → List ℕ
 traceWork kss work =
     replicate linksAt 0
-    ++ (linkBytes (joined kss) ++ (replicate (workSize - linksAt - length (linkBytes (joined kss))) 0 ++ drop workSize work))
+    ++ (linkBytes (allLinks kss) ++ (replicate (workSize - linksAt - length (linkBytes (allLinks kss))) 0 ++ drop workSize work))
 
 -- a work buffer that is zero; what lies past its size is as it was
 unfoldable pub zeroWork : List ℕ → List ℕ

@@ -1,5 +1,6 @@
 // The cells of each level, counted from the links in the work buffer: an entry whose two links differ is a cell.
 use crate::LINKS;
+use diagram::VARIABLES;
 ghost use mathlib.Core.Path.{_≡_};
 ghost use mathlib.Core.List.{sum};
 ghost use Prim.Native.Nat.{_+_, _*_, _≤_};
@@ -35,11 +36,16 @@ pub(crate) fn differing_pairs(work: &[u8], at: usize, pairs: usize) -> usize
 }
 
 // The cells of each of n levels, whose links lie behind those of m outputs.
-pub(crate) fn level_counts(n: usize, m: usize, entries: [usize; 10], work: &[u8]) -> [usize; 10]
+pub(crate) fn level_counts(
+    n: usize,
+    m: usize,
+    entries: [usize; VARIABLES],
+    work: &[u8],
+) -> [usize; VARIABLES]
     requires { ⌜ (n ≤ 10) × (m ≤ 16) × (linksEnd (8192 + 2 * m) (take n entries) ≤ length (now work)) ⌝ }
     ensures { λ r. ⌜ r ≡ tenOf (countsAt (now (work .entry)) (8192 + 2 * m) (take n entries)) ⌝ }
 {
-    let mut counts = [0usize; 10];
+    let mut counts = [0usize; VARIABLES];
     let mut at = LINKS + 2 * m;
     let mut p = 0;
     while p < n {
@@ -52,7 +58,7 @@ pub(crate) fn level_counts(n: usize, m: usize, entries: [usize; 10], work: &[u8]
 }
 
 // All of them.
-pub(crate) fn total(counts: [usize; 10]) -> usize
+pub(crate) fn total(counts: [usize; VARIABLES]) -> usize
     requires { ⌜ sum _+_ 0 counts ≤ 65535 ⌝ }
     ensures { λ r. ⌜ r ≡ sum _+_ 0 counts ⌝ }
 {

@@ -2,6 +2,7 @@
 use crate::REGION;
 use crate::level::level;
 use crate::outputs::zero;
+use diagram::VARIABLES;
 ghost use mathlib.Core.Path.{_≡_};
 ghost use mathlib.Core.Logic.{_⊎_};
 ghost use mathlib.Core.List.{[], _++_};
@@ -9,7 +10,7 @@ ghost use Prim.Native.Nat.{suc, _+_, _*_, _≤_, _<_};
 ghost use lib.Dec.{T};
 ghost use lib.ListN.{length, replicate};
 ghost use Rattle.fill.specs.Pack.{width};
-ghost use Rattle.fill.specs.Work.{linkBytes, joined};
+ghost use Rattle.fill.specs.Work.{linkBytes, allLinks};
 ghost use Rattle.fill.specs.Splice.{splice};
 ghost use Rattle.fill.specs.Level.{partsAt, written};
 ghost use Rattle.fill.specs.Calls.{tenOf};
@@ -49,17 +50,17 @@ pub(crate) fn descend(
     links: usize,
     work: &mut [u8],
     cand: &mut [u8],
-) -> [usize; 10]
+) -> [usize; VARIABLES]
     requires { ⌜ (n ≤ 10) × (8192 ≤ links) × (32768 ≤ length (now work)) × (256 ≤ length (now cand)) ⌝ }
     requires { ⌜ now work ≡ holding 0 (partsAt n count 0 (now work)) (linksUpTo links (now work)) (now work) ⌝ }
     requires { ⌜ T (roomy n (partsAt n count 0 (now work))) ⌝ }
-    requires { ⌜ links + 2 * length (joined (linksBelow n (partsAt n count 0 (now work)))) ≤ 32768 ⌝ }
+    requires { ⌜ links + 2 * length (allLinks (linksBelow n (partsAt n count 0 (now work)))) ≤ 32768 ⌝ }
     ensures entries { λ r. ⌜ r ≡ tenOf (countsBelow n (partsAt n count 0 (now (work .entry)))) ⌝ }
     ensures work { λ _. ⌜ now (work .exit)
-        ≡ holding 0 [] (linksUpTo links (now (work .entry)) ++ linkBytes (joined (linksBelow n (partsAt n count 0 (now (work .entry))))))
+        ≡ holding 0 [] (linksUpTo links (now (work .entry)) ++ linkBytes (allLinks (linksBelow n (partsAt n count 0 (now (work .entry))))))
         (now (work .entry)) ⌝ }
 {
-    let mut entries = [0usize; 10];
+    let mut entries = [0usize; VARIABLES];
     let mut d = n;
     let mut from = 0;
     let mut at = links;

@@ -12,7 +12,7 @@ ghost use Rattle.fill.specs.Splice.{splice};
 ghost use Rattle.fill.specs.Tried.{triedLink, triedPart};
 
 // How many entries there are after a candidate, and the number of the candidate's link.
-pub(crate) struct Placed {
+pub(crate) struct Linked {
     pub entries: usize,
     pub link: usize,
 }
@@ -40,7 +40,7 @@ pub(crate) fn try_entry(w: usize, f: &[u8], region: &mut [u8], e: usize) -> usiz
 }
 
 // Places the candidate f in the first of k entries that agrees, else behind them.
-pub(crate) fn along(w: usize, f: &[u8], region: &mut [u8], k: usize) -> Placed
+pub(crate) fn along(w: usize, f: &[u8], region: &mut [u8], k: usize) -> Linked
     requires { ⌜ 0 < w ⌝ }
     requires { ⌜ length (now f) ≡ w + w ⌝ }
     requires { ⌜ (k + 1) * (w + w) ≤ length (now region) ⌝ }
@@ -54,7 +54,7 @@ pub(crate) fn along(w: usize, f: &[u8], region: &mut [u8], k: usize) -> Placed
     while e < k {
         let link = try_entry(w, f, region, e);
         if 0 < link {
-            return Placed {
+            return Linked {
                 entries: k,
                 link: link,
             };
@@ -63,14 +63,14 @@ pub(crate) fn along(w: usize, f: &[u8], region: &mut [u8], k: usize) -> Placed
     }
     let end = k * (w + w);
     copy_to(f, region, end);
-    Placed {
+    Linked {
         entries: k + 1,
         link: 2 * (k + 1),
     }
 }
 
 // Places the candidate f: as a constant where it is one, else along the k entries.
-pub(crate) fn candidate(w: usize, f: &[u8], region: &mut [u8], k: usize) -> Placed
+pub(crate) fn candidate(w: usize, f: &[u8], region: &mut [u8], k: usize) -> Linked
     requires { ⌜ 0 < w ⌝ }
     requires { ⌜ length (now f) ≡ w + w ⌝ }
     requires { ⌜ (k + 1) * (w + w) ≤ length (now region) ⌝ }
@@ -81,13 +81,13 @@ pub(crate) fn candidate(w: usize, f: &[u8], region: &mut [u8], k: usize) -> Plac
         ++ drop (length (candidatePart w (now (f .entry)) (chunks (w + w) k (now (region .entry))) .parts) * (w + w)) (now (region .entry)) ⌝ }
 {
     if always(false, w, f) {
-        return Placed {
+        return Linked {
             entries: k,
             link: 0,
         };
     }
     if always(true, w, f) {
-        return Placed {
+        return Linked {
             entries: k,
             link: 1,
         };

@@ -7,7 +7,7 @@ use crate::cells::total;
 use crate::descent::descend;
 use crate::gather::places;
 use crate::gather::rows;
-use crate::outputs::place_outputs;
+use crate::outputs::link_outputs;
 use crate::outputs::zero;
 use table::Answer;
 use table::State;
@@ -41,7 +41,7 @@ pub(crate) fn first_level(
     let order = state.order;
     zero(0, WORK, work);
     rows(places(order, n), n, map);
-    place_outputs(n, m, values, care, map, work, cand)
+    link_outputs(n, m, values, care, map, work, cand)
 }
 
 // All levels, with every buffer lent.

@@ -1,7 +1,8 @@
 // The rows of an output, reordered under an order, gathered into packed bytes (document 01, section 3).
 use crate::halves::width_of;
+use diagram::VARIABLES;
 use table::bits::bit_at;
-use table::order::place_of;
+use table::order::level_of;
 ghost use mathlib.Core.Path.{_≡_};
 ghost use mathlib.Core.List.{_++_};
 ghost use Prim.Native.Nat.{ℕ, _+_, _*_, _^_, _≤_, _<_, min};
@@ -9,17 +10,17 @@ ghost use lib.ListN.{length, getD, take, drop};
 ghost use Rattle.diagram.specs.Lists.{digit, bit};
 ghost use Rattle.table.specs.Calls.{over};
 ghost use Rattle.fill.specs.Pack.{width};
-ghost use Rattle.fill.specs.Gather.{placesOf, rowOf, gatheredByte, gatheredPlane, gatheredPart};
+ghost use Rattle.fill.specs.Gather.{variableLevels, rowOf, gatheredByte, gatheredPlane, gatheredPart};
 
 // The level of each variable below n, and zeros.
-pub(crate) fn places(order: [usize; 10], n: usize) -> [usize; 10]
+pub(crate) fn places(order: [usize; VARIABLES], n: usize) -> [usize; VARIABLES]
     requires { ⌜ n ≤ 10 ⌝ }
-    ensures { λ r. ⌜ r ≡ placesOf n order ⌝ }
+    ensures { λ r. ⌜ r ≡ variableLevels n order ⌝ }
 {
-    let mut places = [0usize; 10];
+    let mut places = [0usize; VARIABLES];
     let mut v: usize = 0;
     while v < n {
-        places[v] = place_of(order, n, v);
+        places[v] = level_of(order, n, v);
         v += 1;
     }
     places
@@ -34,7 +35,7 @@ fn bit_of(n: usize, p: usize, s: usize) -> usize
 }
 
 // The drawn row behind row s, where places has each variable's level.
-fn row_behind(places: [usize; 10], n: usize, s: usize) -> usize
+fn row_behind(places: [usize; VARIABLES], n: usize, s: usize) -> usize
     requires { ⌜ (n ≤ 10) × ((v : ℕ) → v < n → getD places v 0 < n) ⌝ }
     ensures { λ r. ⌜ (r ≡ rowOf n places s) × (r < 2 ^ n) ⌝ }
 {
@@ -48,7 +49,7 @@ fn row_behind(places: [usize; 10], n: usize, s: usize) -> usize
 }
 
 // The drawn row behind each row.
-pub(crate) fn rows(places: [usize; 10], n: usize, map: &mut [u16])
+pub(crate) fn rows(places: [usize; VARIABLES], n: usize, map: &mut [u16])
     requires { ⌜ (n ≤ 10) × ((v : ℕ) → v < n → getD places v 0 < n) × (1024 ≤ length (now map)) ⌝ }
     ensures { λ r. ⌜ now (map .exit) ≡ over (rowOf n places) (2 ^ n) (now (map .entry)) ⌝ }
 {

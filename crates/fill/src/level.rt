@@ -24,7 +24,7 @@ pub(crate) fn put_link(link: usize, work: &mut [u8], k: usize)
 }
 
 // Places half b of the part at a among the k entries at to, and writes its link at l. Returns the number of entries.
-pub(crate) fn place_half(
+pub(crate) fn link_half(
     b: bool,
     d: usize,
     a: usize,
@@ -60,7 +60,7 @@ pub(crate) fn place_half(
 }
 
 // Places both halves of the part at a, its 0-half first, and writes their links at l. Returns the number of entries.
-pub(crate) fn place_halves(
+pub(crate) fn link_halves(
     d: usize,
     a: usize,
     to: usize,
@@ -82,9 +82,9 @@ pub(crate) fn place_halves(
         to l (now (work .entry)) ⌝ }
     ensures cand { λ _. ⌜ now (cand .exit) ≡ halvesTaken d (partAt (suc d) a (now (work .entry)) ∷ []) (now (cand .entry)) ⌝ }
 {
-    let n = place_half(false, d, a, to, k, l, work, cand);
+    let n = link_half(false, d, a, to, k, l, work, cand);
     let second = l + 2;
-    place_half(true, d, a, to, n, second, work, cand)
+    link_half(true, d, a, to, n, second, work, cand)
 }
 
 // Places the halves of count parts at from among the entries at to, of which there are none yet, and writes their links at links.
@@ -114,7 +114,7 @@ pub(crate) fn level(
     while e < count {
         let a = from + e * (v + v);
         let l = links + 4 * e;
-        k = place_halves(d, a, to, k, l, work, cand);
+        k = link_halves(d, a, to, k, l, work, cand);
         e += 1;
     }
     k

@@ -13,6 +13,7 @@ mod part;
 
 use crate::filling::fill_held;
 use crate::outputs::zero;
+use diagram::VARIABLES;
 use table::Answer;
 use table::PLANE;
 use table::State;
@@ -32,8 +33,8 @@ pub const WORK: usize = 32768;
 // What a filling answers: the cells in all, and the entries and the cells of each level.
 pub struct Levels {
     pub answer: Answer,
-    pub entries: [usize; 10],
-    pub counts: [usize; 10],
+    pub entries: [usize; VARIABLES],
+    pub counts: [usize; VARIABLES],
 }
 
 // An answer with no level.
@@ -42,8 +43,8 @@ fn refused(answer: Answer) -> Levels
 {
     Levels {
         answer,
-        entries: [0usize; 10],
-        counts: [0usize; 10],
+        entries: [0usize; VARIABLES],
+        counts: [0usize; VARIABLES],
     }
 }
 

@@ -29,7 +29,7 @@ pub(crate) fn zero(from: usize, count: usize, l: &mut [u8])
 }
 
 // Places output j among the k entries in the first region, and writes its link. Returns the number of entries.
-pub(crate) fn place_output(
+pub(crate) fn link_output(
     n: usize,
     j: usize,
     k: usize,
@@ -60,7 +60,7 @@ pub(crate) fn place_output(
 }
 
 // Places the m outputs among the entries in the first region, of which there are none yet. Returns the number of entries.
-pub(crate) fn place_outputs(
+pub(crate) fn link_outputs(
     n: usize,
     m: usize,
     values: &[u8],
@@ -81,7 +81,7 @@ pub(crate) fn place_outputs(
     let mut j = 0;
     let mut k = 0;
     while j < m {
-        k = place_output(n, j, k, values, care, rows, work, cand);
+        k = link_output(n, j, k, values, care, rows, work, cand);
         j += 1;
     }
     k

@@ -1,6 +1,7 @@
 // The parts of a line: a name, what a call answered, the state and the buffers that it left.
 use crate::sums::of_bytes;
 use crate::sums::of_words;
+use diagram::VARIABLES;
 use libc::STDOUT_FILENO;
 use table::Answer;
 use table::Outcome;
@@ -35,7 +36,7 @@ fn number_of(answer: Answer) -> u64 {
         Answer::BadOrder => 6,
         Answer::BadContent => 7,
         Answer::NoRow => 8,
-        Answer::NoPlace => 9,
+        Answer::NoSuch => 9,
         Answer::ShortBuffer => 10,
         Answer::NoTable => 21,
         Answer::NoNetwork => 22,
@@ -69,7 +70,7 @@ fn stage(stage: Stage) {
 }
 
 // All ten entries of an order.
-fn order(order: [usize; 10]) {
+fn order(order: [usize; VARIABLES]) {
     text(b" order");
     let mut p: usize = 0;
     while p < 10 {

@@ -1,4 +1,5 @@
 // States, sound ones and ones that break the heading's rules.
+use diagram::VARIABLES;
 use table::Stage;
 use table::State;
 
@@ -6,10 +7,10 @@ use table::State;
 pub(crate) const HUGE: usize = 18446744073709551615;
 
 // Each input at its own place; the entries past n are no places.
-pub(crate) const NATURAL: [usize; 10] = [0, 1, 2, 3, 4, 5, 6, 7, 8, 9];
+pub(crate) const NATURAL: [usize; VARIABLES] = [0, 1, 2, 3, 4, 5, 6, 7, 8, 9];
 
 // A state of this order that holds a network of four cells.
-pub(crate) fn network(n: usize, m: usize, order: [usize; 10]) -> State {
+pub(crate) fn network(n: usize, m: usize, order: [usize; VARIABLES]) -> State {
     State {
         n,
         m,
@@ -30,7 +31,7 @@ pub(crate) fn sized(n: usize, m: usize) -> State {
 }
 
 // Four inputs and one output in an order of one's choice.
-pub(crate) fn ordered(order: [usize; 10]) -> State {
+pub(crate) fn ordered(order: [usize; VARIABLES]) -> State {
     network(4, 1, order)
 }
 

@@ -18,11 +18,12 @@ use Rattle.table.specs.declared.Answer.the-variants.{Done, ShortBuffer, NoNetwo
 use Rattle.table.specs.declared.Stage.{Stage}
 use Rattle.table.specs.declared.Stage.the-variants.{Nothing, Table as AtTable, Network}
 use Rattle.table.specs.declared.State.{State}
+use Rattle.table.specs.Stream.{packed}
 use Rattle.table.specs.State.{orderOf, stageOf, isNothing, isNetwork}
 use Rattle.table.proofs.Held.{few-inputs, few-outputs, ordered}
 use Rattle.network.specs.Lent.{lentDiagram, rootsSize}
 use Rattle.network.specs.Cells.{lentCells, Followable, Rooted, outputAt}
-use Rattle.network.specs.Evaluate.{outputsOf, goodCells, rowOutputs, evaluateAnswer}
+use Rattle.network.specs.Evaluate.{goodCells, rowOutputs, evaluateAnswer}
 
 network-held : (t : Stage) → T (isNetwork t) → T (not (isNothing t))
 network-held Nothing h = h
@@ -39,10 +40,10 @@ gives-roots cs rs rs′ a (suc k) r =
 
 -- the outputs of the lent diagram are those of its cells
 pub outputs-row : (s : State) (row : ℕ) (roots cells : List ℕ)
-    → outputsOf (s .m) (outputAt (s .n) (s .count) (s .order) cells row roots) ≡ rowOutputs s row roots cells
+    → packed (s .m) (outputAt (s .n) (s .count) (s .order) cells row roots) ≡ rowOutputs s row roots cells
 unfolding rowOutputs outputAt lentDiagram lentCells
 outputs-row s row roots cells =
-    ap (outputsOf (s .m))
+    ap (packed (s .m))
     (λ i j. gives-roots (lentCells (s .count) cells .nodes) [] (take (s .m) roots) (rowUnder (s .n) (orderOf s) row) (s .n) (getD roots j 0) i)
 
 module _ (s : State) (row : ℕ) (roots cells : List ℕ) where
@@ -106,7 +107,7 @@ module _ (s : State) (row : ℕ) (roots cells : List ℕ) where
               own = formed-roots true (s .n) (s .m) (lentDiagram (s .count) (s .m) cells roots) (to-T formed);
             }
 
-            pub answer-done : (x : ℕ) → x ≡ outputsOf (s .m) (outputAt (s .n) (s .count) (s .order) cells row roots)
+            pub answer-done : (x : ℕ) → x ≡ packed (s .m) (outputAt (s .n) (s .count) (s .order) cells row roots)
                 → evaluateAnswer s row roots cells ≡ Done x
             unfolding goodCells
             answer-done x e =

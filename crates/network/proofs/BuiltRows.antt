@@ -15,6 +15,7 @@ use Rattle.diagram.proofs.Bools.{split, of-T}
 use Rattle.diagram.proofs.Demands.{right}
 use Rattle.table.specs.declared.State.{State}
 use Rattle.table.specs.declared.Answer.the-variants.{Done}
+use Rattle.table.specs.Stream.{packed}
 use Rattle.table.specs.State.{goodHeading, orderOf, stageOf, isNothing, isNetwork}
 use Rattle.table.specs.Calls.{over}
 use Rattle.table.proofs.Held.{few-outputs, stage-bad}
@@ -23,16 +24,12 @@ use Rattle.fill.specs.Calls.{heldTable}
 use Rattle.fill.proofs.DrawBytes.{gathered-cong}
 use Rattle.network.specs.Lent.{lentDiagram, numbersOf, rootsSize}
 use Rattle.network.specs.Levels.{networkState}
-use Rattle.network.specs.Evaluate.{outputsOf, goodCells, rowOutputs, evaluateAnswer}
+use Rattle.network.specs.Evaluate.{goodCells, rowOutputs, evaluateAnswer}
 use Rattle.network.specs.Build.{heldNetwork, wanted}
 use Rattle.network.proofs.RootTurns.{roots-size}
 use Rattle.network.proofs.HeldRead.{wanted-nodes}
 use Rattle.network.proofs.LentNetwork.{lent-network}
 use Rattle.network.proofs.LevelsRead.{numbers-length}
-use Rattle.network.proofs.Outputs.{outputs-gathered}
-
-outputs-same : (m : ℕ) (f g : ℕ → Bool) → ((j : ℕ) → j < m → f j ≡ g j) → outputsOf m f ≡ outputsOf m g
-outputs-same m f g e = outputs-gathered m f ∙ gathered-cong m f g e ∙ sym (outputs-gathered m g)
 
 -- the state that a build leaves holds a network
 network-stage : (s : State) (count : ℕ) → T (not (isNothing (stageOf s))) → isNetwork (stageOf (networkState s count)) ≡ true
@@ -75,11 +72,11 @@ module _ (s : State) (values care roots cells : List ℕ) (held : T (not (isNoth
 
   -- every row's outputs are the filled table's
   pub built-row : rowOutputs (networkState s (wanted s values care)) row (builtRoots s values care roots) (builtCells s values care cells)
-      ≡ outputsOf (s .m) (λ j. filledBit true (heldTable s values care) (orderOf s) j row)
+      ≡ packed (s .m) (λ j. filledBit true (heldTable s values care) (orderOf s) j row)
   unfolding rowOutputs heldNetwork Computes
   built-row =
       let D = lentDiagram (wanted s values care) (s .m) (builtCells s values care cells) (builtRoots s values care roots) in
-      outputs-same (s .m) (λ j. gives true D (rowUnder (s .n) (orderOf s) row) (s .n) (getD (builtRoots s values care roots) j 0))
+      gathered-cong (s .m) (λ j. gives true D (rowUnder (s .n) (orderOf s) row) (s .n) (getD (builtRoots s values care roots) j 0))
       (λ j. filledBit true (heldTable s values care) (orderOf s) j row)
       (λ j h.
       ap₂ (λ (E : Diagram) (r : ℕ). gives true E (rowUnder (s .n) (orderOf s) row) (s .n) r) (lent-network s values care held cells roots) (root-there j h)
@@ -87,7 +84,7 @@ module _ (s : State) (values care roots cells : List ℕ) (held : T (not (isNoth
 
   -- so evaluating after a build answers them
   pub evaluate-built : evaluateAnswer (networkState s (wanted s values care)) row (builtRoots s values care roots) (builtCells s values care cells)
-      ≡ Done (outputsOf (s .m) (λ j. filledBit true (heldTable s values care) (orderOf s) j row))
+      ≡ Done (packed (s .m) (λ j. filledBit true (heldTable s values care) (orderOf s) j row))
   unfolding evaluateAnswer
   evaluate-built =
       rw (le-leb rootsSize (length (builtRoots s values care roots)) (omega (arith, roots-long, roots-size)), network-stage s (wanted s values care) held, lt-ltb row (2 ^ s .n) known, good)

@@ -16,37 +16,37 @@ use Rattle.diagram.specs.Network.{reference}
 use Rattle.diagram.specs.Trace.{opposite}
 use Rattle.diagram.proofs.Bools.{split}
 use Rattle.diagram.proofs.Bits.{digit-eqb}
-use Rattle.network.specs.Levels.{wordAt, putWord, refAt, Made, made, noded, entryMade, levelMade}
+use Rattle.network.specs.Levels.{storedAt, putStored, refAt, Made, made, noded, entryMade, levelMade}
 
 node-reference : (next r : ℕ) → reference true next (inverts true r) ≡ 2 * (next + 1) + r % 2
 node-reference next r = rw (digit-eqb (r % 2) (omega arith)) (omega arith)
 
-module _ (work cells : List ℕ) (p below i next k l : ℕ) (ek : k ≡ wordAt work i) (el : l ≡ wordAt work (i + 2)) where
-  alike : k ≡ l → eqb (wordAt work i) (wordAt work (i + 2)) ≡ true
-  alike e = eq-eqb (wordAt work i) (wordAt work (i + 2)) (sym ek ∙ e ∙ el)
+module _ (work cells : List ℕ) (p below i next k l : ℕ) (ek : k ≡ storedAt work i) (el : l ≡ storedAt work (i + 2)) where
+  alike : k ≡ l → eqb (storedAt work i) (storedAt work (i + 2)) ≡ true
+  alike e = eq-eqb (storedAt work i) (storedAt work (i + 2)) (sym ek ∙ e ∙ el)
 
-  unlike : (k ≡ l → ⊥) → eqb (wordAt work i) (wordAt work (i + 2)) ≡ false
-  unlike d = ne-eqb (wordAt work i) (wordAt work (i + 2)) (λ e. d (ek ∙ e ∙ sym el))
+  unlike : (k ≡ l → ⊥) → eqb (storedAt work i) (storedAt work (i + 2)) ≡ false
+  unlike d = ne-eqb (storedAt work i) (storedAt work (i + 2)) (λ e. d (ek ∙ e ∙ sym el))
 
   pub entry-next : (k ≡ l → ⊥) → entryMade p below i (made work cells next) .next ≡ next + 1
   unfolding entryMade
   entry-next d = rw (unlike d)
 
-  pub entry-alike : (r : ℕ) (w : List ℕ) → k ≡ l → r ≡ refAt work below k → w ≡ putWord work i r
+  pub entry-alike : (r : ℕ) (w : List ℕ) → k ≡ l → r ≡ refAt work below k → w ≡ putStored work i r
       → made w cells next ≡ entryMade p below i (made work cells next)
   unfolding entryMade
   entry-alike r w e er ew =
-      rw (alike e) (ap (λ (x : List ℕ). made x cells next) (ew ∙ ap (putWord work i) (er ∙ ap (refAt work below) ek)))
+      rw (alike e) (ap (λ (x : List ℕ). made x cells next) (ew ∙ ap (putStored work i) (er ∙ ap (refAt work below) ek)))
 
   pub entry-unlike : (r q low high : ℕ) (w c : List ℕ) → (k ≡ l → ⊥) → r ≡ refAt work below k → q ≡ refAt work below l
       → low ≡ opposite (eqb (r % 2) 1) r → high ≡ opposite (eqb (r % 2) 1) q
-      → c ≡ sets cells (3 * next) (p ∷ low ∷ high ∷ []) → w ≡ putWord work i (2 * (next + 1) + r % 2)
+      → c ≡ sets cells (3 * next) (p ∷ low ∷ high ∷ []) → w ≡ putStored work i (2 * (next + 1) + r % 2)
       → made w c (next + 1) ≡ entryMade p below i (made work cells next)
   unfolding entryMade
   entry-unlike r q low high w c d er eq lo hi ec ew =
       let s = made work cells next in
       let plain : made w c (next + 1) ≡ noded p i r q s =
-      ap₂ (λ (x y : List ℕ). made x y (next + 1)) (ew ∙ ap (putWord work i) (sym (node-reference next r)))
+      ap₂ (λ (x y : List ℕ). made x y (next + 1)) (ew ∙ ap (putStored work i) (sym (node-reference next r)))
       (ec ∙ ap₂ (λ x y. sets cells (3 * next) (p ∷ x ∷ y ∷ [])) lo hi) in
       rw (unlike d) (plain ∙ ap₂ (λ x y. noded p i x y s) (er ∙ ap (refAt work below) ek) (eq ∙ ap (refAt work below) el))
 
@@ -58,7 +58,7 @@ module _ (p below : ℕ) where
       × (s .next ≤ entryMade p below i s .next)
   unfolding entryMade
   entry-kept i s =
-      split (eqb (wordAt (s .work) i) (wordAt (s .work) (i + 2)))
+      split (eqb (storedAt (s .work) i) (storedAt (s .work) (i + 2)))
       (λ e. rw e (simp length-set, refl, le-refl (s .next)))
       (λ e. rw e (simp length-set, simp length-set, omega arith))
 

@@ -30,14 +30,14 @@ use Rattle.table.specs.State.{orderOf, stageOf, isNothing}
 use Rattle.table.specs.Stream.{sum}
 use Rattle.table.specs.Calls.{over}
 use Rattle.table.proofs.Held.{few-inputs, few-outputs}
-use Rattle.fill.specs.Work.{workSize, linksAt, joined, traceWork, zeroWork, clearedWork}
+use Rattle.fill.specs.Work.{workSize, linksAt, allLinks, traceWork, zeroWork, clearedWork}
 use Rattle.fill.specs.Calls.{heldTable, drawnOutputs, entryCounts, tenOf}
 use Rattle.fill.proofs.LinksRoom.{links-room}
 use Rattle.fill.proofs.Tens.{ten-at}
 use Rattle.fill.proofs.Holding.{work-size}
 use Rattle.network.specs.Lent.{numbersOf, rootsSize}
 use Rattle.network.specs.Build.{heldNetwork, wanted}
-use Rattle.network.specs.Levels.{wordAt, refAt, Made, made, levelAt, levelsMade, rootAt}
+use Rattle.network.specs.Levels.{storedAt, refAt, Made, made, levelAt, levelsMade, rootAt}
 use Rattle.network.proofs.LinkRefs.{Links, links-kept, links-split, links-refs}
 use Rattle.network.proofs.LevelsRead.{traced-length, Sized, LevelsRead, levels-read, levels-next, sized-end, sized-nodes, numbers-length}
 use Rattle.network.proofs.LevelTurns.{levels-work}
@@ -92,11 +92,11 @@ module _ (s : State) (values care : List ℕ) where
   wanted-nodes = refl
 
   module _ (held : T (not (isNothing (stageOf s)))) where
-    pub room : length (joined kss) ≤ 4350
+    pub room : length (allLinks kss) ≤ 4350
     room = links-room (s .n) drawn (few-inputs s held) (subst (λ k. k ≤ 16) (sym drawn-length) (few-outputs s held))
 
     pub few-wanted : wanted s values care ≤ 2159
-    unfolding wanted cost mostVariables mostOutputs mostNodes
+    unfolding wanted cost
     few-wanted =
         let ts = filled true (heldTable s values care) (orderOf s) in
         most (s .n) ts (few-inputs s held) (subst (λ k. k ≤ 16) (sym (filled-length true (heldTable s values care) (orderOf s))) (few-outputs s held))
@@ -113,14 +113,14 @@ module _ (s : State) (values care : List ℕ) where
 
     -- where the levels' links end, and how many nodes they have
 
-    pub held-end : levelAt (s .m) heldEntries (s .n) ≡ 8192 + 2 * length (joined kss)
+    pub held-end : levelAt (s .m) heldEntries (s .n) ≡ 8192 + 2 * length (allLinks kss)
     held-end =
         ap (levelAt (s .m) heldEntries) (sym levels-length) ∙ sized-end (s .m) heldEntries heldCounts lss 0 sized
         ∙ omega (
           arith,
           first-at (s .m) heldEntries,
-          ap (λ (l : List (List Link)). length (joined l)) (trace-lower true (s .n) drawn),
-          length-append (linksOf true drawn) (joined lss),
+          ap (λ (l : List (List Link)). length (allLinks l)) (trace-lower true (s .n) drawn),
+          length-append (linksOf true drawn) (allLinks lss),
           outputs-length,
         )
 
@@ -137,18 +137,18 @@ module _ (s : State) (values care : List ℕ) where
       abbrev pub heldMade : Made
       heldMade = levelsMade (s .m) heldEntries heldCounts 0 (s .n) (made w cells 0)
 
-      links-all : Links w linksAt (linksOf true drawn ++ joined lss)
+      links-all : Links w linksAt (linksOf true drawn ++ allLinks lss)
       links-all =
-          subst (λ (l : List (List Link)). Links w linksAt (joined l)) (trace-lower true (s .n) drawn)
+          subst (λ (l : List (List Link)). Links w linksAt (allLinks l)) (trace-lower true (s .n) drawn)
           (trace-links kss work room (trace-valid (s .n) 4350 drawn room))
 
       links-outputs : Links w linksAt (linksOf true drawn)
-      links-outputs = links-split w linksAt (linksOf true drawn) (joined lss) links-all .0
+      links-outputs = links-split w linksAt (linksOf true drawn) (allLinks lss) links-all .0
 
-      links-levels : Links w (levelAt (s .m) heldEntries 0) (joined lss)
+      links-levels : Links w (levelAt (s .m) heldEntries 0) (allLinks lss)
       links-levels =
           let e : linksAt + 2 * length (linksOf true drawn) ≡ levelAt (s .m) heldEntries 0 = omega (arith, outputs-length) in
-          subst (λ i. Links w i (joined lss)) e (links-split w linksAt (linksOf true drawn) (joined lss) links-all .1)
+          subst (λ i. Links w i (allLinks lss)) e (links-split w linksAt (linksOf true drawn) (allLinks lss) links-all .1)
 
       long : levelAt (s .m) heldEntries (0 + length lss) ≤ length w
       long =
@@ -206,7 +206,7 @@ module _ (s : State) (values care : List ℕ) where
           ap (λ (l : List ℕ). getD l j 0) (sym network-roots) in
           split (ltb j (s .m))
           (λ e. root-link (heldMade .work) (s .m) i j (ltb-true j (s .m) e)
-          ∙ ap (λ x. refAt (heldMade .work) i (wordAt (heldMade .work) (x + 2 * j))) (sym links-at)
+          ∙ ap (λ x. refAt (heldMade .work) i (storedAt (heldMade .work) (x + 2 * j))) (sym links-at)
           ∙ links-refs (heldMade .work) i refs (read .slots) linksAt (linksOf true drawn) links-kept-outputs valid j
           (omega (arith, ltb-true j (s .m) e, outputs-length))
           ∙ roots)

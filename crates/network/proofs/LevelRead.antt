@@ -19,7 +19,7 @@ use Rattle.diagram.proofs.Bools.{split}
 use Rattle.diagram.proofs.Rising.{AllValid}
 use Rattle.fill.specs.Parts.{linkNumber}
 use Rattle.network.specs.Lent.{numbersOf}
-use Rattle.network.specs.Levels.{wordAt, putWord, refAt, Made, passed, noded, entryMade, levelMade}
+use Rattle.network.specs.Levels.{storedAt, putStored, refAt, Made, passed, noded, entryMade, levelMade}
 use Rattle.network.proofs.Words.{Outside, same-word, outside-none, outside-join, outside-put, word-put}
 use Rattle.network.proofs.LinkRefs.{Links, Slots, links-kept, slots-kept, numbers-same, number-ref}
 
@@ -64,8 +64,8 @@ pub record LevelRead (p i : ℕ) (refs : List ℕ) (ls : List Link) (s t : Made)
 
 module _ (p below : ℕ) (refs : List ℕ) where
   -- of an entry whose links are k and l
-  module _ (i : ℕ) (s : Made) (k l : Link) (ek : wordAt (s .work) i ≡ linkNumber k) (el : wordAt (s .work) (i + 2) ≡ linkNumber l) where
-    test : eqb (wordAt (s .work) i) (wordAt (s .work) (i + 2)) ≡ sameLink k l
+  module _ (i : ℕ) (s : Made) (k l : Link) (ek : storedAt (s .work) i ≡ linkNumber k) (el : storedAt (s .work) (i + 2) ≡ linkNumber l) where
+    test : eqb (storedAt (s .work) i) (storedAt (s .work) (i + 2)) ≡ sameLink k l
     test = ap₂ eqb ek el ∙ numbers-same k l
 
     entry-same : sameLink k l ≡ true → entryMade p below i s ≡ passed i (refAt (s .work) below (linkNumber k)) s
@@ -78,7 +78,7 @@ module _ (p below : ℕ) (refs : List ℕ) where
     entry-other e = rw (test ∙ e, ek, el)
 
   -- the first entry and the others together: u is what the first makes of s, with its reference `first`
-  slots-join : (i first : ℕ) (rs : List ℕ) (u t : Made) (b : ℕ) → wordAt (u .work) i ≡ first → Outside (u .work) (t .work) (i + 4) b
+  slots-join : (i first : ℕ) (rs : List ℕ) (u t : Made) (b : ℕ) → storedAt (u .work) i ≡ first → Outside (u .work) (t .work) (i + 4) b
       → Slots (t .work) (i + 4) rs → Slots (t .work) i (first ∷ rs)
   slots-join i first rs u t b e o h = (same-word (u .work) (t .work) i (o .under i (omega arith)) (o .under (i + 1) (omega arith)) ∙ e, h)
 
@@ -112,7 +112,7 @@ module _ (p below : ℕ) (refs : List ℕ) where
               (word-put (s .work) i r long) (rest .outside) (rest .slots));
           stored = rw e (rest .stored);
           counted = rw e (rest .counted);
-          outside = joined-outside i (pairsOf ls) (s .work) (putWord (s .work) i r) (t .work) (outside-put (s .work) i r) (rest .outside);
+          outside = joined-outside i (pairsOf ls) (s .work) (putStored (s .work) i r) (t .work) (outside-put (s .work) i r) (rest .outside);
         }
 
     step-other : sameLink k l ≡ false → LevelRead p (i + 4) refs ls (noded p i r q s) t → LevelRead p i refs (k ∷ l ∷ ls) s t
@@ -125,7 +125,7 @@ module _ (p below : ℕ) (refs : List ℕ) where
           stored =
               rw e (rest .stored ∙ ap (λ x. sets (noded p i r q s .cells) x (numbersOf (entryNodes true p refs ls))) (three (s .next)));
           counted = rw e (omega (arith, rest .counted));
-          outside = joined-outside i (pairsOf ls) (s .work) (putWord (s .work) i o) (t .work) (outside-put (s .work) i o) (rest .outside);
+          outside = joined-outside i (pairsOf ls) (s .work) (putStored (s .work) i o) (t .work) (outside-put (s .work) i o) (rest .outside);
         }
       where
         three : (n : ℕ) → 3 * (n + 1) ≡ suc (suc (suc (3 * n)))

@@ -14,7 +14,7 @@ use Rattle.diagram.specs.Diagram.{Node}
 use Rattle.diagram.specs.Trace.{differing, entryNodes, tracedRefs, tracedNodes}
 use Rattle.diagram.proofs.Rising.{AllValid}
 use Rattle.table.specs.Stream.{sum}
-use Rattle.fill.specs.Work.{joined}
+use Rattle.fill.specs.Work.{allLinks}
 use Rattle.network.specs.Lent.{numbersOf}
 use Rattle.network.specs.Levels.{Made, made, levelMade, levelAt, levelsMade}
 use Rattle.network.proofs.Words.{Outside, outside-none, outside-join, sets-append}
@@ -58,17 +58,17 @@ module _ (m : ℕ) (entries counts : List ℕ) where
 
   -- where the levels below begin
   lower-read : {X : Type 0} (ls : List Link) (lss : List (List Link)) (p : ℕ) (s : Made) → Sized p (ls ∷ lss)
-      → Links (s .work) (levelAt m entries p) (joined (ls ∷ lss)) → levelAt m entries (p + suc (length lss)) ≤ length (s .work)
-      → (Sized (suc p) lss → Links (s .work) (levelAt m entries (suc p)) (joined lss) → levelAt m entries (suc p + length lss) ≤ length (s .work) → X) → X
+      → Links (s .work) (levelAt m entries p) (allLinks (ls ∷ lss)) → levelAt m entries (p + suc (length lss)) ≤ length (s .work)
+      → (Sized (suc p) lss → Links (s .work) (levelAt m entries (suc p)) (allLinks lss) → levelAt m entries (suc p + length lss) ≤ length (s .work) → X) → X
   lower-read ls lss p s size held long f =
       let k : suc p + length lss ≡ p + suc (length lss) = omega arith in
       let e : levelAt m entries p + 2 * length ls ≡ levelAt m entries (suc p) = omega (arith, size .0) in
-      f (size .3) (subst (λ i. Links (s .work) i (joined lss)) e (links-split (s .work) (levelAt m entries p) ls (joined lss) held .1))
+      f (size .3) (subst (λ i. Links (s .work) i (allLinks lss)) e (links-split (s .work) (levelAt m entries p) ls (allLinks lss) held .1))
       (subst (λ q. levelAt m entries q ≤ length (s .work)) (sym k) long)
 
   -- one level more
   module _ (p : ℕ) (ls : List Link) (lss : List (List Link)) (s : Made) (size : Sized p (ls ∷ lss))
-      (held : Links (s .work) (levelAt m entries p) (joined (ls ∷ lss))) (long : levelAt m entries (p + suc (length lss)) ≤ length (s .work))
+      (held : Links (s .work) (levelAt m entries p) (allLinks (ls ∷ lss))) (long : levelAt m entries (p + suc (length lss)) ≤ length (s .work))
       (lower : LevelsRead (suc p) lss s (levelsMade m entries counts (suc p) (length lss) s)) where
     abbrev t : Made
     t = levelsMade m entries counts (suc p) (length lss) s
@@ -91,7 +91,7 @@ module _ (m : ℕ) (entries counts : List ℕ) where
         subst (λ e. LevelRead p (levelAt m entries p) refs ls u (levelMade p (levelAt m entries (suc p)) (levelAt m entries p) e u)) half
         (level-read p (levelAt m entries (suc p)) refs ls (levelAt m entries p) u
         (links-kept (s .work) (t .work) (levelAt m entries p) ls (λ j a b. lower .outside .under j (omega (arith, size .0)))
-        (links-split (s .work) (levelAt m entries p) ls (joined lss) held .0))
+        (links-split (s .work) (levelAt m entries p) ls (allLinks lss) held .0))
         (subst (λ b. Slots (t .work) (levelAt m entries (suc p)) (tracedRefs true b lss)) next-base (lower .slots))
         (subst (λ n. AllValid true n ls) (sym (traced-length (C p + differing ls) lss)) (size .2))
         (omega (arith, half))
@@ -127,7 +127,7 @@ module _ (m : ℕ) (entries counts : List ℕ) where
     unfolding levelsMade
     step-next = read .counted ∙ sym next-base
 
-  pub levels-read : (lss : List (List Link)) (p : ℕ) (s : Made) → Sized p lss → Links (s .work) (levelAt m entries p) (joined lss)
+  pub levels-read : (lss : List (List Link)) (p : ℕ) (s : Made) → Sized p lss → Links (s .work) (levelAt m entries p) (allLinks lss)
       → levelAt m entries (p + length lss) ≤ length (s .work) → LevelsRead p lss s (levelsMade m entries counts p (length lss) s)
   unfolding tracedRefs tracedNodes levelsMade
   levels-read [] p s size held long =
@@ -136,7 +136,7 @@ module _ (m : ℕ) (entries counts : List ℕ) where
       levels-step p ls lss s size held long (lower-read ls lss p s size held long (levels-read lss (suc p) s))
 
   -- where the levels from p + q on are read, the next index is that behind level p + q
-  pub levels-next : (lss : List (List Link)) (p : ℕ) (s : Made) → Sized p lss → Links (s .work) (levelAt m entries p) (joined lss)
+  pub levels-next : (lss : List (List Link)) (p : ℕ) (s : Made) → Sized p lss → Links (s .work) (levelAt m entries p) (allLinks lss)
       → levelAt m entries (p + length lss) ≤ length (s .work) → (q : ℕ) → q < length lss
       → levelsMade m entries counts (p + q) (length lss - q) s .next ≡ C (suc (p + q))
   levels-next [] p s size held long q h = absurd (not-suc-le-zero h)
@@ -152,11 +152,11 @@ module _ (m : ℕ) (entries counts : List ℕ) where
       (lower-read ls lss p s size held long (levels-next lss (suc p) s) q (le-of-suc-le-suc h)))
 
   -- where the links end, and how many nodes there are
-  pub sized-end : (lss : List (List Link)) (p : ℕ) → Sized p lss → levelAt m entries (p + length lss) ≡ levelAt m entries p + 2 * length (joined lss)
+  pub sized-end : (lss : List (List Link)) (p : ℕ) → Sized p lss → levelAt m entries (p + length lss) ≡ levelAt m entries p + 2 * length (allLinks lss)
   sized-end [] p size = rw (add-zero p) (omega arith)
   sized-end (ls ∷ lss) p size =
       let k : p + suc (length lss) ≡ suc p + length lss = omega arith in
-      rw k (omega (arith, sized-end lss (suc p) (size .3), length-append ls (joined lss), size .0))
+      rw k (omega (arith, sized-end lss (suc p) (size .3), length-append ls (allLinks lss), size .0))
 
   pub sized-nodes : (lss : List (List Link)) (p : ℕ) → Sized p lss → C (p + length lss) ≡ C p + length (tracedNodes true p (C p) lss)
   unfolding tracedNodes

@@ -18,7 +18,7 @@ use Rattle.diagram.proofs.Bools.{split, to-T, beq→eq}
 use Rattle.diagram.proofs.Rising.{Valid, AllValid}
 use Rattle.diagram.proofs.Bits.{digit-le, eqb-digit}
 use Rattle.fill.specs.Parts.{linkNumber}
-use Rattle.network.specs.Levels.{wordAt, refAt}
+use Rattle.network.specs.Levels.{storedAt, refAt}
 use Rattle.network.proofs.Words.{same-word}
 
 -- the opposite of a reference
@@ -38,7 +38,7 @@ pub ref-constant : (work : List ℕ) (below k : ℕ) → k < 2 → refAt work be
 unfolding refAt
 ref-constant work below k h = rw (lt-ltb k 2 h)
 
-pub ref-entry : (work : List ℕ) (below k : ℕ) → 2 ≤ k → refAt work below k ≡ opposite (inverts true k) (wordAt work (below + 4 * (k / 2 - 1)))
+pub ref-entry : (work : List ℕ) (below k : ℕ) → 2 ≤ k → refAt work below k ≡ opposite (inverts true k) (storedAt work (below + 4 * (k / 2 - 1)))
 unfolding refAt
 ref-entry work below k h = rw (le-ltb k 2 h)
 
@@ -77,11 +77,11 @@ numbers-same (entry k i) (entry l j) =
 
 abbrev pub Links : List ℕ → ℕ → List Link → Type 0
 Links w i [] = Unit {0}
-Links w i (k ∷ ks) = (wordAt w i ≡ linkNumber k) × Links w (i + 2) ks
+Links w i (k ∷ ks) = (storedAt w i ≡ linkNumber k) × Links w (i + 2) ks
 
 abbrev pub Slots : List ℕ → ℕ → List ℕ → Type 0
 Slots w i [] = Unit {0}
-Slots w i (r ∷ rs) = (wordAt w i ≡ r) × Slots w (i + 4) rs
+Slots w i (r ∷ rs) = (storedAt w i ≡ r) × Slots w (i + 4) rs
 
 pub links-kept : (w w′ : List ℕ) (i : ℕ) (ks : List Link) → ((j : ℕ) → i ≤ j → j < i + 2 * length ks → getD w′ j 0 ≡ getD w j 0)
     → Links w i ks → Links w′ i ks
@@ -103,12 +103,12 @@ links-split w i (k ∷ ks) ls h =
     let e : i + 2 + 2 * length ks ≡ i + 2 * suc (length ks) = omega arith in
     ((h .0, r .0), subst (λ x. Links w x ls) e (r .1))
 
-slot-at : (w : List ℕ) (i : ℕ) (rs : List ℕ) → Slots w i rs → (j : ℕ) → j < length rs → wordAt w (i + 4 * j) ≡ getD rs j 0
+slot-at : (w : List ℕ) (i : ℕ) (rs : List ℕ) → Slots w i rs → (j : ℕ) → j < length rs → storedAt w (i + 4 * j) ≡ getD rs j 0
 slot-at w i [] h j l = absurd (not-suc-le-zero l)
-slot-at w i (r ∷ rs) h zero l = ap (wordAt w) (add-zero i) ∙ h .0
+slot-at w i (r ∷ rs) h zero l = ap (storedAt w) (add-zero i) ∙ h .0
 slot-at w i (r ∷ rs) h (suc j) l =
     let e : i + 4 * suc j ≡ i + 4 + 4 * j = omega arith in
-    ap (wordAt w) e ∙ slot-at w (i + 4) rs (h .1) j (le-of-suc-le-suc l)
+    ap (storedAt w) e ∙ slot-at w (i + 4) rs (h .1) j (le-of-suc-le-suc l)
 
 -- a link's number stands for the link's reference
 pub number-ref : (w : List ℕ) (below : ℕ) (rs : List ℕ) → Slots w below rs → (k : Link) → Valid true (length rs) k
@@ -117,13 +117,13 @@ number-ref w below rs h (const true) v = ref-constant w below 1 (lit< tt)
 number-ref w below rs h (const false) v = ref-constant w below 0 (lit< tt)
 number-ref w below rs h (entry k i) v =
     ref-entry w below (2 * suc k + digit i) (omega arith)
-    ∙ ap₂ opposite (number-odd k i) (ap (λ x. wordAt w (below + 4 * x)) (number-index k i) ∙ slot-at w below rs h k (v .0))
+    ∙ ap₂ opposite (number-odd k i) (ap (λ x. storedAt w (below + 4 * x)) (number-index k i) ∙ slot-at w below rs h k (v .0))
 
 pub links-refs : (w : List ℕ) (below : ℕ) (rs : List ℕ) → Slots w below rs → (i : ℕ) (ks : List Link) → Links w i ks → AllValid true (length rs) ks
-    → (j : ℕ) → j < length ks → refAt w below (wordAt w (i + 2 * j)) ≡ getD (map (linkRef rs) ks) j 0
+    → (j : ℕ) → j < length ks → refAt w below (storedAt w (i + 2 * j)) ≡ getD (map (linkRef rs) ks) j 0
 links-refs w below rs h i [] l v j a = absurd (not-suc-le-zero a)
 links-refs w below rs h i (k ∷ ks) l v zero a =
-    ap (λ x. refAt w below (wordAt w x)) (add-zero i) ∙ ap (refAt w below) (l .0) ∙ number-ref w below rs h k (v .0)
+    ap (λ x. refAt w below (storedAt w x)) (add-zero i) ∙ ap (refAt w below) (l .0) ∙ number-ref w below rs h k (v .0)
 links-refs w below rs h i (k ∷ ks) l v (suc j) a =
     let e : i + 2 * suc j ≡ i + 2 + 2 * j = omega arith in
-    ap (λ x. refAt w below (wordAt w x)) e ∙ links-refs w below rs h (i + 2) ks (l .1) (v .1) j (le-of-suc-le-suc a)
+    ap (λ x. refAt w below (storedAt w x)) e ∙ links-refs w below rs h (i + 2) ks (l .1) (v .1) j (le-of-suc-le-suc a)

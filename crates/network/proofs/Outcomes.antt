@@ -15,7 +15,7 @@ use Rattle.diagram.specs.Fill.{trace}
 use Rattle.diagram.specs.Network.{counts}
 use Rattle.diagram.proofs.Bools.{split, to-T, absurd-T}
 use Rattle.table.specs.declared.Answer.{Answer}
-use Rattle.table.specs.declared.Answer.the-variants.{Done, BadLength, BadCheck, BadKind, BadInputs, BadOutputs, BadOrder, BadContent, NoRow, NoPlace, ShortBuffer, NoTable, NoNetwork, TooSmall, BadCells}
+use Rattle.table.specs.declared.Answer.the-variants.{Done, BadLength, BadCheck, BadKind, BadInputs, BadOutputs, BadOrder, BadContent, NoRow, NoSuch, ShortBuffer, NoTable, NoNetwork, TooSmall, BadCells}
 use Rattle.table.specs.declared.State.{State}
 use Rattle.table.specs.Answer.{unless, done, number, value}
 use Rattle.table.specs.State.{orderOf, stageOf, isNothing}
@@ -39,7 +39,7 @@ told-refused BadOutputs t = refl
 told-refused BadOrder t = refl
 told-refused BadContent t = refl
 told-refused NoRow t = refl
-told-refused NoPlace t = refl
+told-refused NoSuch t = refl
 told-refused ShortBuffer t = refl
 told-refused NoTable t = refl
 told-refused NoNetwork t = refl

@@ -18,10 +18,9 @@ use Rattle.diagram.proofs.Bools.{split, to-T}
 use Rattle.diagram.proofs.Lists.{all-at}
 use Rattle.diagram.proofs.Numbers.{below-other}
 use Rattle.diagram.proofs.Bits.{one-shifted}
-use Rattle.fill.specs.Gather.{gathered}
+use Rattle.table.specs.Stream.{packed}
 use Rattle.fill.proofs.Gathered.{gathered-lt}
 use Rattle.network.specs.Cells.{lentCells, outputAt}
-use Rattle.network.specs.Evaluate.{outputsOf}
 
 -- each of the first m roots is the diagram's own
 pub root-own : (D : Diagram) (m : ℕ) (roots : List ℕ) → m ≤ length roots → T (all (refers true D) (take m roots))
@@ -35,23 +34,18 @@ pub output-found : (n count : ℕ) (order cells : List ℕ) (row : ℕ) (roots :
 unfolding outputAt
 output-found n count order cells row roots j r e b q = rw (← e) (sym q)
 
--- they are gathered as a byte's bits are
-pub outputs-gathered : (m : ℕ) (f : ℕ → Bool) → outputsOf m f ≡ gathered m f
-outputs-gathered zero f = refl
-outputs-gathered (suc m) f = ap (λ (x : ℕ). x + digit (f m) * 2 ^ m) (outputs-gathered m f)
-
-pub outputs-below : (m : ℕ) (f : ℕ → Bool) → outputsOf m f < 2 ^ m
-outputs-below m f = rw (outputs-gathered m f) (gathered-lt m f)
+pub outputs-below : (m : ℕ) (f : ℕ → Bool) → packed m f < 2 ^ m
+outputs-below m f = gathered-lt m f
 
 -- output j added to the outputs before it
-module _ (f : ℕ → Bool) (j total : ℕ) (so-far : total ≡ outputsOf j f) where
+module _ (f : ℕ → Bool) (j total : ℕ) (so-far : total ≡ packed j f) where
   pub output-small : j < 16 → (total < 32768) × (2 ^ j ≤ 32768)
   output-small h = let k : 2 ^ j ≤ 2 ^ 15 = pow-mono {i = j} {j = 15} (omega arith) in (omega (arith, outputs-below j f), k)
 
-  pub output-one : j < 16 → f j ≡ true → total + 1 * 2 ^ j % 2 ^ 64 ≡ outputsOf (j + 1) f
+  pub output-one : j < 16 → f j ≡ true → total + 1 * 2 ^ j % 2 ^ 64 ≡ packed (j + 1) f
   output-one h e = rw (add-one, e) (omega (arith, one-shifted j (omega arith)))
 
-  pub output-zero : f j ≡ false → total ≡ outputsOf (j + 1) f
+  pub output-zero : f j ≡ false → total ≡ packed (j + 1) f
   output-zero e = rw (add-one, e) (omega arith)
 
 -- 'bit j of the answer is output j'
@@ -69,10 +63,10 @@ eqb-digit : (b : Bool) → eqb (digit b % 2) 1 ≡ b
 eqb-digit true = refl
 eqb-digit false = refl
 
-pub output-bit : (m : ℕ) (f : ℕ → Bool) (j : ℕ) → j < m → eqb (outputsOf m f / 2 ^ j % 2) 1 ≡ f j
+pub output-bit : (m : ℕ) (f : ℕ → Bool) (j : ℕ) → j < m → eqb (packed m f / 2 ^ j % 2) 1 ≡ f j
 output-bit zero f j h = absurd (not-suc-le-zero h)
 output-bit (suc m) f j h =
     split (eqb j m)
     (λ e. rw (eqb→eq j m (to-T e), add-comm, high (digit (f m)) m (outputs-below m f)) (eqb-digit (f m)))
     (λ e. let k : j < m = below-other j m h e in
-    ap (λ (y : ℕ). eqb y 1) (above-kept (outputsOf m f) (digit (f m)) j m k) ∙ output-bit m f j k)
+    ap (λ (y : ℕ). eqb y 1) (above-kept (packed m f) (digit (f m)) j m k) ∙ output-bit m f j k)

@@ -15,7 +15,7 @@ use Rattle.diagram.proofs.Tree.{length-halves}
 use Rattle.diagram.proofs.Fill.{links-length}
 use Rattle.diagram.proofs.Levels.{linksOf, below, below-length, lower, trace-lower}
 use Rattle.diagram.proofs.Rising.{AllValid, links-rising, rising-valid}
-use Rattle.fill.specs.Work.{joined}
+use Rattle.fill.specs.Work.{allLinks}
 use Rattle.fill.specs.Calls.{entryCounts}
 use Rattle.network.proofs.LevelRead.{pairsOf, pairs-half}
 use Rattle.network.proofs.LevelsRead.{topEntries, Sized}
@@ -77,19 +77,19 @@ pairs-few [] = zero-le
 pairs-few (k ∷ []) = zero-le
 pairs-few (k ∷ l ∷ ls) = omega (arith, pairs-few ls)
 
-top-few : (lss : List (List Link)) → topEntries lss ≤ length (joined lss)
+top-few : (lss : List (List Link)) → topEntries lss ≤ length (allLinks lss)
 top-few [] = zero-le
-top-few (ls ∷ lss) = omega (arith, pairs-few ls, length-append ls (joined lss))
+top-few (ls ∷ lss) = omega (arith, pairs-few ls, length-append ls (allLinks lss))
 
-pub trace-valid : (d n : ℕ) (fs : List (Tree Row d)) → length (joined (trace true d fs)) ≤ n → AllValid true n (joined (trace true d fs))
+pub trace-valid : (d n : ℕ) (fs : List (Tree Row d)) → length (allLinks (trace true d fs)) ≤ n → AllValid true n (allLinks (trace true d fs))
 trace-valid zero n fs h =
     let e = trace-lower true zero fs in
     rw e (valid-append n (linksOf true fs) [] (valid-more 0 n (linksOf true fs) zero-le (links-valid zero fs)) tt)
 trace-valid (suc d) n fs h =
     let e = trace-lower true (suc d) fs in
-    let h′ : length (linksOf true fs ++ joined (lower true (suc d) fs)) ≤ n = rw e at h in
-    let few : length (joined (lower true (suc d) fs)) ≤ n = omega (arith, length-append (linksOf true fs) (joined (lower true (suc d) fs))) in
+    let h′ : length (linksOf true fs ++ allLinks (lower true (suc d) fs)) ≤ n = rw e at h in
+    let few : length (allLinks (lower true (suc d) fs)) ≤ n = omega (arith, length-append (linksOf true fs) (allLinks (lower true (suc d) fs))) in
     rw e
-    (valid-append n (linksOf true fs) (joined (lower true (suc d) fs))
+    (valid-append n (linksOf true fs) (allLinks (lower true (suc d) fs))
     (valid-more (topEntries (lower true (suc d) fs)) n (linksOf true fs) (le-trans (top-few (lower true (suc d) fs)) few) (links-valid (suc d) fs))
     (trace-valid d n (next fs) few))

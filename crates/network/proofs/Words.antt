@@ -8,14 +8,14 @@ use native.Mathlib.Nat.{add-zero}
 use native.Mathlib.Omega.{arith}
 use lib.ListN.{length, getD, set, length-set}
 use lib.Seq.{sets, getD-set-same, getD-set-other, set-comm}
-use Rattle.network.specs.Levels.{wordAt, putWord}
+use Rattle.network.specs.Levels.{storedAt, putStored}
 
 -- the bytes below a and from b on are the same
 pub record Outside (w w′ : List ℕ) (a b : ℕ) : Type 0 where
   pub under : (j : ℕ) → j < a → getD w′ j 0 ≡ getD w j 0
   pub past : (j : ℕ) → b ≤ j → getD w′ j 0 ≡ getD w j 0
 
-pub same-word : (w w′ : List ℕ) (i : ℕ) → getD w′ i 0 ≡ getD w i 0 → getD w′ (i + 1) 0 ≡ getD w (i + 1) 0 → wordAt w′ i ≡ wordAt w i
+pub same-word : (w w′ : List ℕ) (i : ℕ) → getD w′ i 0 ≡ getD w i 0 → getD w′ (i + 1) 0 ≡ getD w (i + 1) 0 → storedAt w′ i ≡ storedAt w i
 same-word w w′ i low high = ap₂ (λ x y. x + 256 * y) low high
 
 pub outside-none : (w : List ℕ) (a b : ℕ) → Outside w w a b
@@ -29,21 +29,21 @@ outside-join {w} {w′} {w″} {a} {b} {c} {d} {e} {f} ha hc hb hd o o′ =
     }
 
 module _ (w : List ℕ) (i x : ℕ) where
-  put-other : (j : ℕ) → j ≢ i → j ≢ i + 1 → getD (putWord w i x) j 0 ≡ getD w j 0
+  put-other : (j : ℕ) → j ≢ i → j ≢ i + 1 → getD (putStored w i x) j 0 ≡ getD w j 0
   put-other j d e = getD-set-other (set w i (x % 256)) (i + 1) j (x / 256) 0 e ∙ getD-set-other w i j (x % 256) 0 d
 
-  pub outside-put : Outside w (putWord w i x) i (i + 2)
+  pub outside-put : Outside w (putStored w i x) i (i + 2)
   outside-put =
       record {
         under = λ j h. put-other j (λ e. omega arith) (λ e. omega arith);
         past = λ j h. put-other j (λ e. omega arith) (λ e. omega arith);
       }
 
-  pub word-put : i + 1 < length w → wordAt (putWord w i x) i ≡ x
+  pub word-put : i + 1 < length w → storedAt (putStored w i x) i ≡ x
   word-put h =
-      let low : getD (putWord w i x) i 0 ≡ x % 256 =
+      let low : getD (putStored w i x) i 0 ≡ x % 256 =
       getD-set-other (set w i (x % 256)) (i + 1) i (x / 256) 0 (λ e. omega arith) ∙ getD-set-same w i (x % 256) 0 (omega arith) in
-      let high : getD (putWord w i x) (i + 1) 0 ≡ x / 256 =
+      let high : getD (putStored w i x) (i + 1) 0 ≡ x / 256 =
       getD-set-same (set w i (x % 256)) (i + 1) (x / 256) 0 (omega (arith, length-set w i (x % 256))) in
       omega (arith, low, high)
 

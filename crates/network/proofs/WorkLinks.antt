@@ -12,10 +12,10 @@ use Rattle.diagram.specs.Fill.{Link, const, entry}
 use Rattle.diagram.proofs.Rising.{Valid, AllValid}
 use Rattle.diagram.proofs.Bits.{digit-le}
 use Rattle.fill.specs.Parts.{linkNumber}
-use Rattle.fill.specs.Work.{workSize, linksAt, linkBytes, joined, traceWork, zeroWork, clearedWork}
+use Rattle.fill.specs.Work.{workSize, linksAt, linkBytes, allLinks, traceWork, zeroWork, clearedWork}
 use Rattle.fill.proofs.Long.{length-links}
 use Rattle.fill.proofs.Holding.{work-size}
-use Rattle.network.specs.Levels.{wordAt}
+use Rattle.network.specs.Levels.{storedAt}
 use Rattle.network.proofs.Words.{Outside}
 use Rattle.network.proofs.LinkRefs.{Links}
 
@@ -28,7 +28,7 @@ number-small : (k : Link) → Valid true 4350 k → linkNumber k < 65536
 number-small (const b) v = omega (arith, digit-le b)
 number-small (entry k i) v = omega (arith, digit-le i)
 
-bytes-word : (p : List ℕ) (n : ℕ) (q : List ℕ) → n < 65536 → wordAt (p ++ (n % 256 ∷ n / 256 % 256 ∷ q)) (length p) ≡ n
+bytes-word : (p : List ℕ) (n : ℕ) (q : List ℕ) → n < 65536 → storedAt (p ++ (n % 256 ∷ n / 256 % 256 ∷ q)) (length p) ≡ n
 bytes-word p n q h =
     let a = n % 256 in
     let b = n / 256 % 256 in
@@ -51,19 +51,19 @@ bytes-links p (k ∷ ks) q v =
           (subst (λ i. Links ((p ++ a ∷ b ∷ []) ++ (linkBytes ks ++ q)) i ks) long (bytes-links (p ++ a ∷ b ∷ []) ks q (v .1))),
     )
 
-module _ (kss : List (List Link)) (work : List ℕ) (room : length (joined kss) ≤ 4350) where
-  pub trace-links : AllValid true 4350 (joined kss) → Links (traceWork kss work) linksAt (joined kss)
+module _ (kss : List (List Link)) (work : List ℕ) (room : length (allLinks kss) ≤ 4350) where
+  pub trace-links : AllValid true 4350 (allLinks kss) → Links (traceWork kss work) linksAt (allLinks kss)
   unfolding traceWork
   trace-links v =
       let front : List ℕ = replicate linksAt 0 in
-      let back : List ℕ = replicate (workSize - linksAt - length (linkBytes (joined kss))) 0 ++ drop workSize work in
-      subst (λ i. Links (front ++ (linkBytes (joined kss) ++ back)) i (joined kss)) (length-replicate {A = ℕ} linksAt 0) (bytes-links front (joined kss) back v)
+      let back : List ℕ = replicate (workSize - linksAt - length (linkBytes (allLinks kss))) 0 ++ drop workSize work in
+      subst (λ i. Links (front ++ (linkBytes (allLinks kss) ++ back)) i (allLinks kss)) (length-replicate {A = ℕ} linksAt 0) (bytes-links front (allLinks kss) back v)
 
   pub trace-long : workSize ≤ length (traceWork kss work)
   unfolding traceWork
   trace-long =
       let front : List ℕ = replicate linksAt 0 in
-      let bytes = linkBytes (joined kss) in
+      let bytes = linkBytes (allLinks kss) in
       let zeros : List ℕ = replicate (workSize - linksAt - length bytes) 0 in
       let past = drop workSize work in
       omega (
@@ -80,7 +80,7 @@ module _ (kss : List (List Link)) (work : List ℕ) (room : length (joined kss) 
   unfolding traceWork
   trace-past =
       let front : List ℕ = replicate linksAt 0 in
-      let bytes = linkBytes (joined kss) in
+      let bytes = linkBytes (allLinks kss) in
       let zeros : List ℕ = replicate (workSize - linksAt - length bytes) 0 in
       let past = drop workSize work in
       let whole : (front ++ (bytes ++ zeros)) ++ past ≡ front ++ (bytes ++ (zeros ++ past)) =
@@ -92,7 +92,7 @@ module _ (kss : List (List Link)) (work : List ℕ) (room : length (joined kss) 
         length-append bytes zeros,
         length-replicate {A = ℕ} linksAt 0,
         length-replicate {A = ℕ} (workSize - linksAt - length bytes) 0,
-        length-links (joined kss),
+        length-links (allLinks kss),
         work-size,
         links-at,
       ) in

@@ -12,23 +12,19 @@ use Rattle.table.specs.declared.Answer.{Answer}
 use Rattle.table.specs.declared.Answer.the-variants.{Done, ShortBuffer, NoNetwork, NoRow, BadCells}
 use Rattle.table.specs.declared.State.{State}
 use Rattle.table.specs.Answer.{unless}
+use Rattle.table.specs.Stream.{packed}
 use Rattle.table.specs.State.{orderOf, stageOf, isNetwork}
 use Rattle.network.specs.Lent.{lentDiagram, rootsSize}
-
--- 'bit j of the answer is output j': bits 0 to m - 1 as a number
-abbrev pub outputsOf : ℕ → (ℕ → Bool) → ℕ
-outputsOf zero f = 0
-outputsOf (suc m) f = outputsOf m f + digit (f m) * 2 ^ m
 
 -- 24: 'lent cells fewer than the count', or cells and roots that are no well-formed diagram
 unfoldable pub goodCells : State → List ℕ → List ℕ → Bool
 goodCells s roots cells =
     leb (s .count) (length cells / 3) && wellFormed true (s .n) (s .m) (lentDiagram (s .count) (s .m) cells roots)
 
--- what the row gives at each output's root
+-- what the row gives at each output's root: 'bit j of the answer is output j'
 unfoldable pub rowOutputs : State → ℕ → List ℕ → List ℕ → ℕ
 rowOutputs s row roots cells =
-    outputsOf (s .m)
+    packed (s .m)
     (λ j. gives true (lentDiagram (s .count) (s .m) cells roots) (rowUnder (s .n) (orderOf s) row) (s .n) (getD roots j 0))
 
 unfoldable pub evaluateAnswer : State → ℕ → List ℕ → List ℕ → Answer

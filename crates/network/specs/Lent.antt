@@ -4,6 +4,7 @@ use mathlib.Core.List.{List, [], _∷_, map}
 use Prim.Native.Nat.{ℕ, _+_, _*_}
 use lib.ListN.{getD, take}
 use Rattle.diagram.specs.Lists.{upTo}
+use Rattle.diagram.specs.Bound.{mostOutputs}
 use Rattle.diagram.specs.Diagram.{Node, Diagram}
 
 -- 'cells of three 16-bit numbers': cell i, from 0
@@ -21,4 +22,4 @@ numbersOf (c ∷ cs) = c .level ∷ c .low ∷ c .high ∷ numbersOf cs
 
 -- how many roots are lent
 unfoldable pub rootsSize : ℕ
-rootsSize = 16
+rootsSize = mostOutputs

@@ -16,15 +16,15 @@ use Rattle.table.specs.Stream.{sum}
 use Rattle.fill.specs.Work.{linksAt}
 
 -- the 16-bit number at byte i, low byte first, and another one put there
-abbrev pub wordAt : List ℕ → ℕ → ℕ
-wordAt work i = getD work i 0 + 256 * getD work (i + 1) 0
+abbrev pub storedAt : List ℕ → ℕ → ℕ
+storedAt work i = getD work i 0 + 256 * getD work (i + 1) 0
 
-abbrev pub putWord : List ℕ → ℕ → ℕ → List ℕ
-putWord work i x = set (set work i (x % 256)) (i + 1) (x / 256)
+abbrev pub putStored : List ℕ → ℕ → ℕ → List ℕ
+putStored work i x = set (set work i (x % 256)) (i + 1) (x / 256)
 
 -- the reference that link number k stands for, where the references of the entries below stand every four bytes from byte `below` on
 unfoldable pub refAt : List ℕ → ℕ → ℕ → ℕ
-refAt work below k = cond (ltb k 2) k (opposite (inverts true k) (wordAt work (below + 4 * (k / 2 - 1))))
+refAt work below k = cond (ltb k 2) k (opposite (inverts true k) (storedAt work (below + 4 * (k / 2 - 1))))
 
 -- the work buffer, the cells and the index of the next node
 pub record Made : Type 0 where
@@ -37,19 +37,19 @@ made work cells next = record { work = work; cells = cells; next = next }
 
 -- of an entry with one reference for both links
 abbrev pub passed : ℕ → ℕ → Made → Made
-passed i r s = made (putWord (s .work) i r) (s .cells) (s .next)
+passed i r s = made (putStored (s .work) i r) (s .cells) (s .next)
 
 -- of an entry with two, r and q: its node, inverted where r inverts
 abbrev pub noded : ℕ → ℕ → ℕ → ℕ → Made → Made
 noded p i r q s =
-    made (putWord (s .work) i (reference true (s .next) (inverts true r)))
+    made (putStored (s .work) i (reference true (s .next) (inverts true r)))
     (sets (s .cells) (3 * s .next) (p ∷ opposite (inverts true r) r ∷ opposite (inverts true r) q ∷ [])) (s .next + 1)
 
 -- the entry of level p whose links begin at byte i
 unfoldable pub entryMade : ℕ → ℕ → ℕ → Made → Made
 entryMade p below i s =
-    cond (eqb (wordAt (s .work) i) (wordAt (s .work) (i + 2))) (passed i (refAt (s .work) below (wordAt (s .work) i)) s)
-    (noded p i (refAt (s .work) below (wordAt (s .work) i)) (refAt (s .work) below (wordAt (s .work) (i + 2))) s)
+    cond (eqb (storedAt (s .work) i) (storedAt (s .work) (i + 2))) (passed i (refAt (s .work) below (storedAt (s .work) i)) s)
+    (noded p i (refAt (s .work) below (storedAt (s .work) i)) (refAt (s .work) below (storedAt (s .work) (i + 2))) s)
 
 -- e entries of level p, the first one's links at byte i
 unfoldable pub levelMade : ℕ → ℕ → ℕ → ℕ → Made → Made
@@ -62,7 +62,7 @@ levelAt m entries p = linksAt + 2 * m + 4 * sum (λ q. getD entries q 0) p
 
 -- the root of output j, of m: the reference that its link stands for; zero past them
 unfoldable pub rootAt : List ℕ → ℕ → ℕ → ℕ → ℕ
-rootAt work m below j = cond (ltb j m) (refAt work below (wordAt work (linksAt + 2 * j))) 0
+rootAt work m below j = cond (ltb j m) (refAt work below (storedAt work (linksAt + 2 * j))) 0
 
 -- level p, whose nodes come behind those of the levels above
 abbrev pub levelFrom : ℕ → List ℕ → List ℕ → ℕ → Made → Made

@@ -3,6 +3,7 @@ use crate::ROOTS;
 use crate::levels::links_end;
 use crate::levels::read_levels;
 use crate::roots::write_roots;
+use diagram::VARIABLES;
 use fill::LINKS;
 use fill::clear;
 use fill::links;
@@ -27,8 +28,8 @@ ghost use Rattle.network.specs.Build.{capacity, buildOutcome, buildRoots
 fn lay_out(
     n: usize,
     m: usize,
-    entries: [usize; 10],
-    counts: [usize; 10],
+    entries: [usize; VARIABLES],
+    counts: [usize; VARIABLES],
     total: usize,
     work: &mut [u8],
     roots: &mut [u16],

@@ -9,7 +9,7 @@ ghost use Rattle.network.specs.Lent.{lentNode, lentDiagram};
 ghost use Rattle.network.specs.Cells.{lentCells};
 
 // Number i, or 0 past the end.
-pub fn number_at(numbers: &[u16], i: usize) -> usize
+pub fn lent_number(numbers: &[u16], i: usize) -> usize
     ensures { λ r. ⌜ (r ≡ getD (now (numbers .entry)) i 0) × (r < 65536) ⌝ }
 {
     if i < numbers.len() {
@@ -30,7 +30,7 @@ fn later_than(cells: &[u16], count: usize, p: usize, r: usize) -> bool
     if count + count + 1 < r {
         return false;
     }
-    p < number_at(cells, 3 * (r / 2 - 1))
+    p < lent_number(cells, 3 * (r / 2 - 1))
 }
 
 // Whether cell i, from 0, has a level below n and edges only to later levels or constants.
@@ -39,14 +39,14 @@ fn node_good(cells: &[u16], count: usize, n: usize, i: usize) -> bool
     ensures { λ x. ⌜ x ≡ nodeGood true n (lentCells count (now (cells .entry))) (lentNode (now (cells .entry)) i) ⌝ }
 {
     let first = 3 * i;
-    let p = number_at(cells, first);
+    let p = lent_number(cells, first);
     if n <= p {
         return false;
     }
-    if !later_than(cells, count, p, number_at(cells, first + 1)) {
+    if !later_than(cells, count, p, lent_number(cells, first + 1)) {
         return false;
     }
-    later_than(cells, count, p, number_at(cells, first + 2))
+    later_than(cells, count, p, lent_number(cells, first + 2))
 }
 
 // Whether every counted cell is good.
@@ -72,7 +72,7 @@ fn roots_good(cells: &[u16], count: usize, roots: &[u16], m: usize) -> bool
     let most = count + count + 1;
     let mut j: usize = 0;
     while j < m {
-        if most < number_at(roots, j) {
+        if most < lent_number(roots, j) {
             return false;
         }
         j += 1;

@@ -1,5 +1,6 @@
 // What a row gives at a reference: from cell to cell along the edge for the row's bit (document 01, section 4).
-use crate::cells::number_at;
+use crate::cells::lent_number;
+use diagram::VARIABLES;
 ghost use mathlib.Core.Path.{_≡_};
 ghost use mathlib.Core.Bool.{true};
 ghost use Prim.Native.Nat.{_≤_, _<_};
@@ -9,7 +10,7 @@ ghost use Rattle.diagram.specs.Lists.{flip};
 ghost use Rattle.diagram.specs.Diagram.{edge, nodeAt, refers, gives};
 ghost use Rattle.diagram.specs.Order.{isOrder, rowUnder};
 ghost use Rattle.network.specs.Cells.{lentCells, Followable, Rooted, outputAt};
-ghost use Rattle.network.specs.Evaluate.{outputsOf};
+ghost use Rattle.table.specs.Stream.{packed};
 
 // A bit, inverted where i is true.
 fn flipped(i: bool, b: bool) -> bool
@@ -19,7 +20,7 @@ fn flipped(i: bool, b: bool) -> bool
 }
 
 // The row's bit of the variable at level p.
-fn bit_under(order: [usize; 10], n: usize, row: usize, p: usize) -> bool
+fn bit_under(order: [usize; VARIABLES], n: usize, row: usize, p: usize) -> bool
     requires { ⌜ (n ≤ 10) × (T (isOrder n (take n order)) × (p < n)) ⌝ }
     ensures { λ r. ⌜ r ≡ rowUnder n (take n order) row p ⌝ }
 {
@@ -28,24 +29,31 @@ fn bit_under(order: [usize; 10], n: usize, row: usize, p: usize) -> bool
 }
 
 // The edge of the cell behind r for the row's bit at the cell's level.
-fn next(cells: &[u16], count: usize, order: [usize; 10], n: usize, row: usize, r: usize) -> usize
+fn next(
+    cells: &[u16],
+    count: usize,
+    order: [usize; VARIABLES],
+    n: usize,
+    row: usize,
+    r: usize,
+) -> usize
     requires { ⌜ Followable n count order (now cells) × ((2 ≤ r) × T (refers true (lentCells count (now cells)) r)) ⌝ }
     ensures { λ x. ⌜ x ≡ edge (rowUnder n (take n order) row (nodeAt true (lentCells count (now (cells .entry))) r .level))
         (nodeAt true (lentCells count (now (cells .entry))) r) ⌝ }
 {
     let first = 3 * (r / 2 - 1);
-    let p = number_at(cells, first);
+    let p = lent_number(cells, first);
     if bit_under(order, n, row, p) {
-        return number_at(cells, first + 2);
+        return lent_number(cells, first + 2);
     }
-    number_at(cells, first + 1)
+    lent_number(cells, first + 1)
 }
 
 // What the row gives at a root.
 fn follow(
     cells: &[u16],
     count: usize,
-    order: [usize; 10],
+    order: [usize; VARIABLES],
     n: usize,
     row: usize,
     root: usize,
@@ -68,17 +76,17 @@ pub(crate) fn outputs(
     count: usize,
     roots: &[u16],
     m: usize,
-    order: [usize; 10],
+    order: [usize; VARIABLES],
     n: usize,
     row: usize,
 ) -> usize
     requires { ⌜ Followable n count order (now cells) × Rooted m count (now roots) (now cells) ⌝ }
-    ensures { λ x. ⌜ x ≡ outputsOf m (outputAt n count order (now (cells .entry)) row (now (roots .entry))) ⌝ }
+    ensures { λ x. ⌜ x ≡ packed m (outputAt n count order (now (cells .entry)) row (now (roots .entry))) ⌝ }
 {
     let mut total: usize = 0;
     let mut j: usize = 0;
     while j < m {
-        if follow(cells, count, order, n, row, number_at(roots, j)) {
+        if follow(cells, count, order, n, row, lent_number(roots, j)) {
             total += 1 << j;
         }
         j += 1;

@@ -1,8 +1,9 @@
 // The network's nodes, read off the links of the levels.
 use crate::links::link_ref;
-use crate::links::put_word;
+use crate::links::put_stored;
+use crate::links::stored_at;
 use crate::links::turned;
-use crate::links::word_at;
+use diagram::VARIABLES;
 use fill::LINKS;
 ghost use mathlib.Core.Path.{_≡_};
 ghost use mathlib.Core.List.{[], _∷_};
@@ -38,11 +39,11 @@ fn read_entry(
     ensures { λ r.
         ⌜ made (now (work .exit)) (now (cells .exit)) r ≡ entryMade p below i (made (now (work .entry)) (now (cells .entry)) next) ⌝ }
 {
-    let k = word_at(work, i);
-    let l = word_at(work, i + 2);
+    let k = stored_at(work, i);
+    let l = stored_at(work, i + 2);
     let r = link_ref(work, below, k);
     if k == l {
-        put_word(work, i, r);
+        put_stored(work, i, r);
         return next;
     }
     let q = link_ref(work, below, l);
@@ -50,7 +51,7 @@ fn read_entry(
     let low = turned(r, odd);
     let high = turned(q, odd);
     put_node(cells, next, p, low, high);
-    put_word(work, i, 2 * (next + 1) + r % 2);
+    put_stored(work, i, 2 * (next + 1) + r % 2);
     next + 1
 }
 
@@ -81,7 +82,7 @@ fn read_level(
 }
 
 // Where the links of the n levels end, behind those of m outputs.
-pub(crate) fn links_end(n: usize, m: usize, entries: [usize; 10]) -> usize
+pub(crate) fn links_end(n: usize, m: usize, entries: [usize; VARIABLES]) -> usize
     requires { ⌜ (n ≤ 10) × (m ≤ 16) × (levelAt m entries n < 65536) ⌝ }
     ensures { λ r. ⌜ r ≡ levelAt m entries n ⌝ }
 {
@@ -99,8 +100,8 @@ pub(crate) fn links_end(n: usize, m: usize, entries: [usize; 10]) -> usize
 pub(crate) fn read_levels(
     n: usize,
     m: usize,
-    entries: [usize; 10],
-    counts: [usize; 10],
+    entries: [usize; VARIABLES],
+    counts: [usize; VARIABLES],
     end: usize,
     total: usize,
     work: &mut [u8],

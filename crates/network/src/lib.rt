@@ -7,5 +7,7 @@ mod levels;
 mod links;
 mod roots;
 
-// How many roots are lent.
-pub const ROOTS: usize = 16;
+use diagram::OUTPUTS;
+
+// How many roots are lent: one for each output there can be.
+pub const ROOTS: usize = OUTPUTS;

@@ -4,12 +4,12 @@ ghost use mathlib.Core.Path.{_≡_};
 ghost use Prim.Native.Nat.{_+_, _<_};
 ghost use lib.ListN.{length};
 ghost use Rattle.diagram.specs.Trace.{opposite};
-ghost use Rattle.network.specs.Levels.{wordAt, putWord, refAt};
+ghost use Rattle.network.specs.Levels.{storedAt, putStored, refAt};
 
 // The number at byte i.
-pub(crate) fn word_at(work: &[u8], i: usize) -> usize
+pub(crate) fn stored_at(work: &[u8], i: usize) -> usize
     requires { ⌜ i < 1000000 ⌝ }
-    ensures { λ r. ⌜ (r ≡ wordAt (now (work .entry)) i) × (r < 65536) ⌝ }
+    ensures { λ r. ⌜ (r ≡ storedAt (now (work .entry)) i) × (r < 65536) ⌝ }
 {
     let low = number_at(work, i);
     let high = number_at(work, i + 1);
@@ -17,9 +17,9 @@ pub(crate) fn word_at(work: &[u8], i: usize) -> usize
 }
 
 // Puts a number at byte i.
-pub(crate) fn put_word(work: &mut [u8], i: usize, x: usize)
+pub(crate) fn put_stored(work: &mut [u8], i: usize, x: usize)
     requires { ⌜ (i + 1 < length (now work)) × (x < 65536) ⌝ }
-    ensures { λ _. ⌜ now (work .exit) ≡ putWord (now (work .entry)) i x ⌝ }
+    ensures { λ _. ⌜ now (work .exit) ≡ putStored (now (work .entry)) i x ⌝ }
 {
     work[i] = (x % 256) as u8;
     work[i + 1] = (x / 256) as u8;
@@ -47,6 +47,6 @@ pub(crate) fn link_ref(work: &[u8], below: usize, k: usize) -> usize
     if k < 2 {
         return k;
     }
-    let r = word_at(work, below + 4 * (k / 2 - 1));
+    let r = stored_at(work, below + 4 * (k / 2 - 1));
     turned(r, k % 2 == 1)
 }

@@ -1,7 +1,7 @@
 // The roots, read off the links of the outputs.
 use crate::ROOTS;
 use crate::links::link_ref;
-use crate::links::word_at;
+use crate::links::stored_at;
 use fill::LINKS;
 ghost use mathlib.Core.Path.{_≡_};
 ghost use Prim.Native.Nat.{_<_, _≤_};
@@ -18,7 +18,7 @@ fn root_of(work: &[u8], m: usize, below: usize, j: usize) -> usize
     if m <= j {
         return 0;
     }
-    let k = word_at(work, LINKS + 2 * j);
+    let k = stored_at(work, LINKS + 2 * j);
     link_ref(work, below, k)
 }
 

@@ -41,9 +41,9 @@ mark-more done v h =
     (λ i k. let j : i < 10 = omega arith in mark-at done v i h j ∙ sym (marks-at (v ∷ done) i j))
 
 -- where the marks are those of the variables sifted, what comes next is what comes next in the pass
-pub next-marked : (t : Table) (q : Pass) → t .n ≤ 10 → nextOf t (q .order) (marks (q .done)) ≡ next t q
+pub next-marked : (t : Table) (q : Pass) → t .n ≤ 10 → nextOf t (q .order) (marks (q .sifted)) ≡ next t q
 unfolding nextOf next
 next-marked t q k =
     ap (most (nodesOf t (q .order)))
-    (keep-cong eqb eqb-equality (λ v. not (getD (marks (q .done)) v false)) (λ v. not (has eqb v (q .done))) (upTo (t .n))
-    (λ w h. ap not (marks-at (q .done) w (le-trans (upTo-lt w (t .n) h) k))))
+    (keep-cong eqb eqb-equality (λ v. not (getD (marks (q .sifted)) v false)) (λ v. not (has eqb v (q .sifted))) (upTo (t .n))
+    (λ w h. ap not (marks-at (q .sifted) w (le-trans (upTo-lt w (t .n) h) k))))

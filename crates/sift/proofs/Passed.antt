@@ -44,10 +44,10 @@ module _ (s : State) (limit : ℕ) (values care work : List ℕ) where
     pass-whole = (rw (e, h), (rw (e, h), demand))
 
     -- as the pass was held at its end
-    pub pass-done : (p : Progress) → p ≡ progressOf s (passOf s limit values care) → (left : State) → left ≡ reorderedState s (p .order)
+    pub pass-sifted : (p : Progress) → p ≡ progressOf s (passOf s limit values care) → (left : State) → left ≡ reorderedState s (p .order)
         → (after : List ℕ) → after ≡ zeroWork work → Passes s limit values care work (record { answer = Done (p .tried); state = left }) after
     unfolding passedOutcome progressOf
-    pass-done p d left t after z =
+    pass-sifted p d left t after z =
         let q : left ≡ withOrder s (passOf s limit values care .order) = t ∙ ap (λ (x : Progress). reorderedState s (x .order)) d in
         let c : p .tried ≡ passOf s limit values care .tried = ap (λ (x : Progress). x .tried) d in
         let same : record { answer = Done (p .tried); state = left } ≡ passedOutcome = λ i. record { answer = Done (c i); state = q i } in

@@ -14,7 +14,7 @@ use Rattle.diagram.specs.Order.{isOrder}
 use Rattle.diagram.specs.Table.{Table}
 use Rattle.diagram.specs.Sift.{sift, Pass, next, turn, allowed}
 use Rattle.diagram.proofs.Order.{order-length}
-use Rattle.diagram.proofs.Pass.{afterTurns, after-suc, after-done, after-tried, after-going, Going, next-below, turns, allowed-only}
+use Rattle.diagram.proofs.Pass.{afterTurns, after-suc, after-sifted, after-tried, after-going, Going, next-below, turns, allowed-only}
 use Rattle.table.specs.declared.State.{State}
 use Rattle.table.specs.State.{goodHeading, orderOf}
 use Rattle.table.proofs.Held.{heading-inputs, heading-order}
@@ -29,7 +29,7 @@ use Rattle.sift.proofs.Marked.{mark-more, next-marked}
 -- a turn of a pass that is held is the held turn of the pass
 
 module _ (s : State) (values care : List ℕ) (k : s .n ≤ 10) (q : Pass) (going : Going (heldTable s values care) q)
-    (h : length (q .done) < s .n) where
+    (h : length (q .sifted) < s .n) where
   order-held : take (s .n) (progressOf s q .order) ≡ q .order
   unfolding progressOf
   order-held = take-at (q .order) (drop (s .n) (s .order)) (s .n) (order-length (s .n) (q .order) (going .valid))
@@ -41,7 +41,7 @@ module _ (s : State) (values care : List ℕ) (k : s .n ≤ 10) (q : Pass) (goin
   next-held : nextIn (heldTable s values care) (progressOf s q) ≡ next (heldTable s values care) q
   unfolding progressOf
   next-held =
-      ap (λ (order : List ℕ). nextOf (heldTable s values care) order (marks (q .done))) order-held
+      ap (λ (order : List ℕ). nextOf (heldTable s values care) order (marks (q .sifted))) order-held
       ∙ next-marked (heldTable s values care) q k
 
   pub turn-held : turnOf (heldTable s values care) (progressOf s q) ≡ progressOf s (turn (heldTable s values care) q)
@@ -51,8 +51,8 @@ module _ (s : State) (values care : List ℕ) (k : s .n ≤ 10) (q : Pass) (goin
       let o = ap₂ (λ (v : ℕ) (order : List ℕ). sift t v order) next-held order-held in
       λ i. record {
         order = o i ++ past-held i;
-        done = (ap (λ (v : ℕ). set (marks (q .done)) v true) next-held ∙ mark-more (q .done) (next t q) (le-trans (next-below t q h) k)) i;
-        sifted = add-one (length (q .done)) i;
+        done = (ap (λ (v : ℕ). set (marks (q .sifted)) v true) next-held ∙ mark-more (q .sifted) (next t q) (le-trans (next-below t q h) k)) i;
+        sifted = add-one (length (q .sifted)) i;
         tried = q .tried + s .n;
       }
 
@@ -103,12 +103,12 @@ module _ (s : State) (limit : ℕ) (values care : List ℕ) (g : T (goodHeading 
       turned-now =
           e ∙ ap (turnOf (heldTable s values care)) (r .held)
           ∙ turn-held s values care (heading-inputs (s .n) (s .m) (orderOf s) g) (after (p .sifted)) (going (p .sifted) (r .within))
-          (omega (arith, after-done (heldTable s values care) (p .sifted) (orderOf s)))
+          (omega (arith, after-sifted (heldTable s values care) (p .sifted) (orderOf s)))
           ∙ ap (progressOf s) (sym (after-suc (heldTable s values care) (p .sifted) (orderOf s)))
 
       one-more : q .sifted ≡ suc (p .sifted)
       unfolding progressOf
-      one-more = ap (λ (x : Progress). x .sifted) turned-now ∙ after-done (heldTable s values care) (suc (p .sifted)) (orderOf s)
+      one-more = ap (λ (x : Progress). x .sifted) turned-now ∙ after-sifted (heldTable s values care) (suc (p .sifted)) (orderOf s)
 
       more-tried : q .tried ≡ p .tried + s .n
       unfolding turnOf

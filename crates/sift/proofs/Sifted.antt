@@ -10,7 +10,7 @@ use Rattle.diagram.specs.Order.{moved}
 use Rattle.diagram.specs.Table.{cost}
 use Rattle.diagram.specs.Sift.{sift}
 use Rattle.diagram.proofs.Sift.{sifted}
-use Rattle.table.specs.declared.Answer.the-variants.{Done, NoPlace, ShortBuffer, NoTable}
+use Rattle.table.specs.declared.Answer.the-variants.{Done, NoSuch, ShortBuffer, NoTable}
 use Rattle.table.specs.declared.Outcome.{Outcome}
 use Rattle.table.specs.declared.State.{State}
 use Rattle.table.specs.State.{orderOf, stageOf, isNothing, reorderedState}
@@ -39,7 +39,7 @@ module _ (s : State) (v : ℕ) (values care work : List ℕ) where
   sift-no-table e h = (rw (e, h), (rw (e, h), demand))
 
   module _ (e : enough values care work ≡ true) (h : not (isNothing (stageOf s)) ≡ true) where
-    pub sift-no-place : s .n ≤ v → Sifts s v values care work (record { answer = NoPlace; state = s }) work
+    pub sift-no-place : s .n ≤ v → Sifts s v values care work (record { answer = NoSuch; state = s }) work
     unfolding siftAnswer siftOutcome siftWork
     sift-no-place l = (rw (e, h, le-ltb v (s .n) l), (rw (e, h, le-ltb v (s .n) l), demand))
 

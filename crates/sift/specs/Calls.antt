@@ -10,7 +10,7 @@ use Rattle.diagram.specs.Table.{cost}
 use Rattle.diagram.specs.Sift.{sift, pass, allowed, Pass}
 use Rattle.diagram.specs.Demands.{SiftedLeast, TurnsLeast}
 use Rattle.table.specs.declared.Answer.{Answer}
-use Rattle.table.specs.declared.Answer.the-variants.{Done, NoPlace, ShortBuffer, NoTable}
+use Rattle.table.specs.declared.Answer.the-variants.{Done, NoSuch, ShortBuffer, NoTable}
 use Rattle.table.specs.declared.Outcome.{Outcome}
 use Rattle.table.specs.declared.State.{State}
 use Rattle.table.specs.Answer.{unless, done}
@@ -31,7 +31,7 @@ unfoldable pub siftAnswer : State → ℕ → List ℕ → List ℕ → List ℕ
 siftAnswer s v values care work =
     unless (enough values care work) ShortBuffer
     (unless (not (isNothing (stageOf s))) NoTable
-    (unless (ltb v (s .n)) NoPlace (Done (cost (heldTable s values care) (siftedOrder s v values care)))))
+    (unless (ltb v (s .n)) NoSuch (Done (cost (heldTable s values care) (siftedOrder s v values care)))))
 
 unfoldable pub siftOutcome : State → ℕ → List ℕ → List ℕ → List ℕ → Outcome
 siftOutcome s v values care work =
@@ -65,7 +65,8 @@ passWork s limit values care work = cond (done (passAnswer s limit values care w
 
 -- demand 3 after a single sift
 unfoldable pub SiftDemand : State → ℕ → List ℕ → List ℕ → Type 0
-SiftDemand s v values care = v < s .n → SiftedLeast (heldTable s values care) v (siftedOrder s v values care)
+SiftDemand s v values care = v < s .n
+    → SiftedLeast (heldTable s values care) v (siftedOrder s v values care) (cost (heldTable s values care) (siftedOrder s v values care))
 
 -- demand 3 at each sift of a pass, and which of them a limit comes to: the k-th sift's order is the one under the limit n × k
 pub record PassDemand (s : State) (limit : ℕ) (values care : List ℕ) : Type 0 where

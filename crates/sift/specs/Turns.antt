@@ -19,7 +19,7 @@ marks done = map (λ v. has eqb v done) (upTo 10)
 -- how a pass of the state's table is held
 unfoldable pub progressOf : State → Pass → Progress
 progressOf s q =
-    record { order = q .order ++ drop (s .n) (s .order); done = marks (q .done); sifted = length (q .done); tried = q .tried }
+    record { order = q .order ++ drop (s .n) (s .order); done = marks (q .sifted); sifted = length (q .sifted); tried = q .tried }
 
 -- the variable that comes next
 abbrev pub nextIn : Table → Progress → ℕ

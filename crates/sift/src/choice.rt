@@ -1,7 +1,8 @@
 // The variable that a pass sifts next: the unsifted one with the most nodes, the lowest on ties (document 01, section 5).
 use crate::trials::reorder;
+use diagram::VARIABLES;
 use table::State;
-use table::order::place_of;
+use table::order::level_of;
 ghost use mathlib.Core.Path.{_≡_};
 ghost use Prim.Native.Nat.{_≤_};
 ghost use lib.Dec.{T};
@@ -34,7 +35,12 @@ fn overtake(lead: Lead, v: usize, nodes: usize, sifted: bool) -> Lead
 
 // The unsifted variable with the most nodes, by the nodes of each level. It goes from the highest number down, so that on ties
 // the lowest is left.
-fn fullest(counts: [usize; 10], order: [usize; 10], done: [bool; 10], n: usize) -> usize
+fn fullest(
+    counts: [usize; VARIABLES],
+    order: [usize; VARIABLES],
+    done: [bool; VARIABLES],
+    n: usize,
+) -> usize
     requires { ⌜ n ≤ 10 ⌝ }
     requires { ⌜ T (isOrder n (take n order)) ⌝ }
     ensures { λ r. ⌜ r ≡ most (nodesAt counts (take n order)) (left n done) ⌝ }
@@ -46,7 +52,7 @@ fn fullest(counts: [usize; 10], order: [usize; 10], done: [bool; 10], n: usize) 
     let mut v = n;
     while 0 < v {
         v -= 1;
-        let place = place_of(order, n, v);
+        let place = level_of(order, n, v);
         let nodes = counts[place];
         let sifted = done[v];
         lead = overtake(lead, v, nodes, sifted);
@@ -57,8 +63,8 @@ fn fullest(counts: [usize; 10], order: [usize; 10], done: [bool; 10], n: usize) 
 // The variable that comes next under an order.
 pub(crate) fn next_variable(
     state: State,
-    order: [usize; 10],
-    done: [bool; 10],
+    order: [usize; VARIABLES],
+    done: [bool; VARIABLES],
     values: &[u8],
     care: &[u8],
     work: &mut [u8],

@@ -1,5 +1,6 @@
 // An order with a variable moved to another level (document 01, section 5).
-use table::order::place_of;
+use diagram::VARIABLES;
+use table::order::level_of;
 ghost use mathlib.Core.Path.{_≡_};
 ghost use mathlib.Core.List.{_++_};
 ghost use Prim.Native.Nat.{_≤_, _<_};
@@ -9,7 +10,7 @@ ghost use Rattle.diagram.specs.Order.{isOrder, moved};
 ghost use Rattle.sift.specs.Entries.{otherEntry, movedEntry};
 
 // The j-th of the others, where one stands at level q.
-fn other(order: [usize; 10], q: usize, j: usize) -> usize
+fn other(order: [usize; VARIABLES], q: usize, j: usize) -> usize
     requires { ⌜ j < 9 ⌝ }
     ensures { λ r. ⌜ r ≡ otherEntry order q j ⌝ }
 {
@@ -20,7 +21,7 @@ fn other(order: [usize; 10], q: usize, j: usize) -> usize
 }
 
 // What stands at level i once v has moved from level q to level p.
-fn moved_entry(order: [usize; 10], v: usize, q: usize, p: usize, i: usize) -> usize
+fn moved_entry(order: [usize; VARIABLES], v: usize, q: usize, p: usize, i: usize) -> usize
     requires { ⌜ (p < 10) × (i < 10) ⌝ }
     ensures { λ r. ⌜ r ≡ movedEntry order v q p i ⌝ }
 {
@@ -34,13 +35,18 @@ fn moved_entry(order: [usize; 10], v: usize, q: usize, p: usize, i: usize) -> us
 }
 
 // The order with v at level p, the others in sequence; entries past n are kept.
-pub(crate) fn moved_to(order: [usize; 10], n: usize, v: usize, p: usize) -> [usize; 10]
+pub(crate) fn moved_to(
+    order: [usize; VARIABLES],
+    n: usize,
+    v: usize,
+    p: usize,
+) -> [usize; VARIABLES]
     requires { ⌜ n ≤ 10 ⌝ }
     requires { ⌜ T (isOrder n (take n order)) ⌝ }
     requires { ⌜ (v < n) × (p < n) ⌝ }
     ensures { λ r. ⌜ r ≡ moved v p (take n order) ++ drop n order ⌝ }
 {
-    let q = place_of(order, n, v);
+    let q = level_of(order, n, v);
     let mut after = order;
     let mut i: usize = 0;
     while i < n {

@@ -4,6 +4,7 @@ use crate::order::moved_to;
 use crate::room::has_room;
 use crate::trials::best_place;
 use crate::trials::reorder;
+use diagram::VARIABLES;
 use table::Answer;
 use table::Outcome;
 use table::State;
@@ -20,8 +21,8 @@ ghost use Rattle.sift.specs.Turns.{progressOf, turnOf};
 
 // A pass under way: the order, a mark for each variable sifted, how many they are, and the orders tried.
 pub(crate) struct Progress {
-    pub order: [usize; 10],
-    pub done: [bool; 10],
+    pub order: [usize; VARIABLES],
+    pub done: [bool; VARIABLES],
     pub sifted: usize,
     pub tried: usize,
 }
@@ -62,7 +63,7 @@ fn run(state: State, limit: usize, values: &[u8], care: &[u8], work: &mut [u8]) 
     let order = state.order;
     let mut progress = Progress {
         order,
-        done: [false; 10],
+        done: [false; VARIABLES],
         sifted: 0,
         tried: 0,
     };

@@ -31,7 +31,7 @@ pub fn sift(state: State, input: usize, values: &[u8], care: &[u8], work: &mut [
     let n = state.n;
     if n <= input {
         return Outcome {
-            answer: Answer::NoPlace,
+            answer: Answer::NoSuch,
             state,
         };
     }

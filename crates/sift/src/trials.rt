@@ -1,6 +1,7 @@
 // Trying an order means filling and counting under it; trying a variable at every level, from the top down, finds the best of them
 // (document 01, section 5).
 use crate::order::moved_to;
+use diagram::VARIABLES;
 use table::Answer;
 use table::Stage;
 use table::State;
@@ -23,7 +24,7 @@ pub(crate) struct Best {
 }
 
 // The state with another order: its table, and no network.
-pub(crate) fn reorder(state: State, order: [usize; 10]) -> State
+pub(crate) fn reorder(state: State, order: [usize; VARIABLES]) -> State
     ensures { λ r. ⌜ r ≡ reorderedState state order ⌝ }
 {
     State {
@@ -36,7 +37,13 @@ pub(crate) fn reorder(state: State, order: [usize; 10]) -> State
 }
 
 // Tries an order.
-fn cost_of(state: State, order: [usize; 10], values: &[u8], care: &[u8], work: &mut [u8]) -> usize
+fn cost_of(
+    state: State,
+    order: [usize; VARIABLES],
+    values: &[u8],
+    care: &[u8],
+    work: &mut [u8],
+) -> usize
     requires { ⌜ T (enough (now values) (now care) (now work)) ⌝ }
     requires { ⌜ T (goodHeading (state .n) (state .m) (take (state .n) order)) ⌝ }
     ensures cost { λ r. ⌜ r ≡ cost (heldTable state (now (values .entry)) (now (care .entry))) (take (state .n) order) ⌝ }

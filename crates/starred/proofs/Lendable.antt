@@ -113,7 +113,7 @@ applies (sifts t order v left c) x =
 applies (fits t order b fit) x = lendable t order x
 
 starred-keep : T (all keeps starred)
-unfolding starred goodHeading mostVariables mostOutputs isOrder
+unfolding starred goodHeading isOrder
 starred-keep = tt
 
 -- the starred claims, by their number from 0; d stands where there is none

@@ -7,7 +7,7 @@ use Prim.Native.Nat.{ℕ, zero, suc, _+_, _*_, _-_, _/_, _%_, _<_, _^_}
 use native.Mathlib.Omega.{arith}
 use lib.Dec.{T, eqb, ltb, lt→ltb}
 use lib.ListN.{length, replicate, length-replicate}
-use Rattle.diagram.specs.Lists.{upTo, number, bit}
+use Rattle.diagram.specs.Lists.{upTo, rowNumber, bit}
 use Rattle.diagram.proofs.Bools.{and-T}
 use Rattle.diagram.proofs.Bits.{number-lt, bit-number}
 use Rattle.diagram.proofs.UpTo.{getD-map-upTo, length-map-upTo}
@@ -17,7 +17,7 @@ use Rattle.starred.specs.Lendable.{isBytes}
 
 -- byte k: its highest bit is bit 8k + 7 of the stream
 abbrev byteOf : (ℕ → Bool) → ℕ → ℕ
-byteOf f k = number 8 (λ v. f (8 * k + (7 - v)))
+byteOf f k = rowNumber 8 (λ v. f (8 * k + (7 - v)))
 
 abbrev pub plane : (ℕ → Bool) → List ℕ
 plane f = map (byteOf f) (upTo planeSize)

@@ -15,7 +15,7 @@ use Rattle.diagram.proofs.Bools.{split, to-T, absurd-T, and-l, and-r}
 use Rattle.table.specs.declared.Answer.{Answer}
 use Rattle.table.specs.declared.Answer.the-variants.{Done, BadLength, BadCheck, BadKind, BadInputs, BadOutputs, BadOrder, BadContent}
 use Rattle.table.specs.Answer.{unless, done}
-use Rattle.table.specs.File.{goodCheck, goodKind, goodTail, goodRest, inputsOf, outputsOf, fileOrder, streamBits, streamBlocks, firstBit, blockAnswer, blocksAnswer, streamsAnswer, fileAnswer}
+use Rattle.table.specs.File.{goodCheck, goodKind, goodTail, goodRest, fileInputs, fileOutputs, fileOrder, streamBits, streamBlocks, firstBit, blockAnswer, blocksAnswer, streamsAnswer, fileAnswer}
 
 -- a success passes each test
 unless-done : (ok : Bool) (refusal rest : Answer) → done refusal ≡ false → T (done (unless ok refusal rest)) → T ok × T (done rest)
@@ -52,20 +52,20 @@ accepted-from bits blocks file k (suc left) t j h l =
 pub record Accepted (file : List ℕ) : Type 0 where
   pub check : T (goodCheck file 0)
   pub kind : T (goodKind 0 file 0)
-  pub inputs : inputsOf file ≤ 10
-  pub one-output : 1 ≤ outputsOf file
-  pub outputs : outputsOf file ≤ 16
-  pub order : T (isOrder (inputsOf file) (fileOrder file))
+  pub inputs : fileInputs file ≤ 10
+  pub one-output : 1 ≤ fileOutputs file
+  pub outputs : fileOutputs file ≤ 16
+  pub order : T (isOrder (fileInputs file) (fileOrder file))
   pub rest : T (goodRest file)
-  pub long : length file ≡ 512 * (1 + 2 * streamBlocks (inputsOf file) (outputsOf file))
-  pub blocks : (k : ℕ) → 1 ≤ k → k ≤ 2 * streamBlocks (inputsOf file) (outputsOf file)
-      → AcceptedBlock (streamBits (inputsOf file) (outputsOf file)) (streamBlocks (inputsOf file) (outputsOf file)) file k
+  pub long : length file ≡ 512 * (1 + 2 * streamBlocks (fileInputs file) (fileOutputs file))
+  pub blocks : (k : ℕ) → 1 ≤ k → k ≤ 2 * streamBlocks (fileInputs file) (fileOutputs file)
+      → AcceptedBlock (streamBits (fileInputs file) (fileOutputs file)) (streamBlocks (fileInputs file) (fileOutputs file)) file k
 
 pub accepted : (file : List ℕ) → T (done (fileAnswer file)) → Accepted file
-unfolding fileAnswer streamsAnswer mostVariables mostOutputs
+unfolding fileAnswer streamsAnswer
 accepted file t =
-    let n : ℕ = inputsOf file in
-    let m : ℕ = outputsOf file in
+    let n : ℕ = fileInputs file in
+    let m : ℕ = fileOutputs file in
     let l = unless-done (leb 1 (length file) && eqb (length file % 512) 0) BadLength _ refl t in
     let c = unless-done (goodCheck file 0) BadCheck _ refl (l .1) in
     let k = unless-done (goodKind 0 file 0) BadKind _ refl (c .1) in

@@ -14,7 +14,7 @@ use lib.Dec.{eqb}
 use lib.ListN.{length}
 use lib.Pow.{pow-mono}
 use Rattle.table.specs.declared.Answer.{Answer}
-use Rattle.table.specs.declared.Answer.the-variants.{Done, BadLength, BadCheck, BadKind, BadInputs, BadOutputs, BadOrder, BadContent, NoRow, NoPlace, ShortBuffer, NoTable, NoNetwork, TooSmall, BadCells}
+use Rattle.table.specs.declared.Answer.the-variants.{Done, BadLength, BadCheck, BadKind, BadInputs, BadOutputs, BadOrder, BadContent, NoRow, NoSuch, ShortBuffer, NoTable, NoNetwork, TooSmall, BadCells}
 use Rattle.table.proofs.Answer.{the-type}
 use Rattle.table.specs.Answer.{done}
 use Rattle.table.specs.File.{streamBlocks, blockAnswer, blocksAnswer, streamsAnswer}
@@ -30,7 +30,7 @@ done-tag BadOutputs = refl
 done-tag BadOrder = refl
 done-tag BadContent = refl
 done-tag NoRow = refl
-done-tag NoPlace = refl
+done-tag NoSuch = refl
 done-tag ShortBuffer = refl
 done-tag NoTable = refl
 done-tag NoNetwork = refl

@@ -12,7 +12,7 @@ use Rattle.diagram.specs.Lists.{all, upTo}
 use Rattle.diagram.specs.Bound.{mostVariables, mostOutputs}
 use Rattle.diagram.specs.Order.{isOrder}
 use Rattle.diagram.proofs.UpTo.{take-map-upTo, map-upTo-cong}
-use Rattle.table.specs.File.{byte, inputsOf, outputsOf, fileOrder, goodRest}
+use Rattle.table.specs.File.{byte, fileInputs, fileOutputs, fileOrder, goodRest}
 
 pub second-false : (a : Bool) {b : Bool} → b ≡ false → a && b ≡ false
 second-false true e = e
@@ -35,18 +35,16 @@ module _ (file : List ℕ) where
   is-whole n e = rw (le-leb 1 (length file) (omega arith)) (eq-eqb _ _ e)
 
   -- n, which is at most 10
-  module _ (n : ℕ) (e : n ≡ inputsOf file) where
-    pub many-inputs : 10 < n → leb (inputsOf file) mostVariables ≡ false
-    unfolding mostVariables
-    many-inputs h = lt-leb (inputsOf file) 10 (omega arith)
+  module _ (n : ℕ) (e : n ≡ fileInputs file) where
+    pub many-inputs : 10 < n → leb (fileInputs file) mostVariables ≡ false
+    many-inputs h = lt-leb (fileInputs file) 10 (omega arith)
 
-    pub few-inputs : n ≤ 10 → leb (inputsOf file) mostVariables ≡ true
-    unfolding mostVariables
-    few-inputs h = le-leb (inputsOf file) 10 (omega arith)
+    pub few-inputs : n ≤ 10 → leb (fileInputs file) mostVariables ≡ true
+    few-inputs h = le-leb (fileInputs file) 10 (omega arith)
 
     -- the order read from the heading, with zeros past n
     pub order-read : (b : Bool) (order : List ℕ) → n ≤ 10 → order ≡ map (λ p. cond (ltb p n) (byte file 0 (6 + p)) 0) (upTo 10)
-        → b ≡ isOrder n (take n order) → b ≡ isOrder (inputsOf file) (fileOrder file)
+        → b ≡ isOrder n (take n order) → b ≡ isOrder (fileInputs file) (fileOrder file)
     order-read b order h q i =
         i ∙ ap (λ (l : List ℕ). isOrder n (take n l)) q ∙ ap (isOrder n) (first-listed (λ p. byte file 0 (6 + p)) n 10 h)
         ∙ ap (λ (k : ℕ). isOrder k (map (λ p. byte file 0 (6 + p)) (upTo k))) e
@@ -56,14 +54,12 @@ module _ (file : List ℕ) where
     rest-read b q = q ∙ ap (λ (k : ℕ). all (λ i. eqb (byte file 0 (6 + k + i)) 0) (upTo (504 - k))) e
 
   -- m, from 1 to 16
-  module _ (m : ℕ) (e : m ≡ outputsOf file) where
-    pub no-outputs : m ≡ 0 → leb 1 (outputsOf file) && leb (outputsOf file) mostOutputs ≡ false
-    no-outputs z = rw (lt-leb 1 (outputsOf file) (omega arith))
+  module _ (m : ℕ) (e : m ≡ fileOutputs file) where
+    pub no-outputs : m ≡ 0 → leb 1 (fileOutputs file) && leb (fileOutputs file) mostOutputs ≡ false
+    no-outputs z = rw (lt-leb 1 (fileOutputs file) (omega arith))
 
-    pub many-outputs : 16 < m → leb 1 (outputsOf file) && leb (outputsOf file) mostOutputs ≡ false
-    unfolding mostOutputs
-    many-outputs h = second-false (leb 1 (outputsOf file)) (lt-leb (outputsOf file) 16 (omega arith))
+    pub many-outputs : 16 < m → leb 1 (fileOutputs file) && leb (fileOutputs file) mostOutputs ≡ false
+    many-outputs h = second-false (leb 1 (fileOutputs file)) (lt-leb (fileOutputs file) 16 (omega arith))
 
-    pub some-outputs : (m ≡ 0 → ⊥) → m ≤ 16 → leb 1 (outputsOf file) && leb (outputsOf file) mostOutputs ≡ true
-    unfolding mostOutputs
-    some-outputs z h = rw (le-leb 1 (outputsOf file) (omega arith)) (le-leb (outputsOf file) 16 (omega arith))
+    pub some-outputs : (m ≡ 0 → ⊥) → m ≤ 16 → leb 1 (fileOutputs file) && leb (fileOutputs file) mostOutputs ≡ true
+    some-outputs z h = rw (le-leb 1 (fileOutputs file) (omega arith)) (le-leb (fileOutputs file) 16 (omega arith))

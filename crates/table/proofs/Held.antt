@@ -20,7 +20,7 @@ use Rattle.table.proofs.Answers.{stream-small}
 -- the first rule that is broken, or the order's
 
 pub many-inputs : (n m : ℕ) (order : List ℕ) → 10 < n → goodHeading n m order ≡ false
-unfolding goodHeading mostVariables
+unfolding goodHeading
 many-inputs n m order h = rw (lt-leb n 10 h)
 
 pub no-outputs : (n m : ℕ) (order : List ℕ) → m ≡ 0 → goodHeading n m order ≡ false
@@ -28,11 +28,11 @@ unfolding goodHeading
 no-outputs n m order e = rw (lt-leb 1 m (omega arith)) (and-false (leb n mostVariables))
 
 pub many-outputs : (n m : ℕ) (order : List ℕ) → 16 < m → goodHeading n m order ≡ false
-unfolding goodHeading mostOutputs
+unfolding goodHeading
 many-outputs n m order h = rw (lt-leb m 16 h, and-false (leb 1 m)) (and-false (leb n mostVariables))
 
 pub good-order : (n m : ℕ) (order : List ℕ) → n ≤ 10 → (m ≡ 0 → ⊥) → m ≤ 16 → goodHeading n m order ≡ isOrder n order
-unfolding goodHeading mostVariables mostOutputs
+unfolding goodHeading
 good-order n m order h d k = rw (le-leb n 10 h, le-leb 1 m (omega arith), le-leb m 16 k)
 
 -- the stage that a state counts as
@@ -49,7 +49,7 @@ stage-good s e = rw e
 
 module _ (n m : ℕ) (order : List ℕ) (g : T (goodHeading n m order)) where
   pub heading-inputs : n ≤ 10
-  unfolding goodHeading mostVariables
+  unfolding goodHeading
   heading-inputs = leb→le n 10 (and-l (leb n 10) _ g)
 
   pub heading-outputs : T (leb 1 m && leb m mostOutputs)
@@ -77,7 +77,6 @@ module _ (s : State) (held : T (not (isNothing (stageOf s)))) where
   some-outputs = leb→le 1 (s .m) (and-l (leb 1 (s .m)) (leb (s .m) mostOutputs) in-range)
 
   pub few-outputs : s .m ≤ 16
-  unfolding mostOutputs
   few-outputs = leb→le (s .m) 16 (and-r (leb 1 (s .m)) (leb (s .m) 16) in-range)
 
   pub ordered : T (isOrder (s .n) (orderOf s))

@@ -11,7 +11,7 @@ pub mod LoadCall
 pub mod Loaded
 pub mod Orders
 pub mod Over
-pub mod Places
+pub mod VariableLevels
 pub mod Stream
 pub mod Sums
 pub mod Swapped

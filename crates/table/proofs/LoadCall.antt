@@ -13,16 +13,16 @@ use Rattle.table.specs.declared.Stage.the-variants.{Table as AtTable}
 use Rattle.table.specs.declared.Answer.{Answer}
 use Rattle.table.specs.declared.Answer.the-variants.{ShortBuffer}
 use Rattle.table.specs.Answer.{done}
-use Rattle.table.specs.File.{byte, inputsOf, outputsOf, streamBlocks, streamByte, fileAnswer}
+use Rattle.table.specs.File.{byte, fileInputs, fileOutputs, streamBlocks, streamByte, fileAnswer}
 use Rattle.table.proofs.Heading.{second-false}
 use Rattle.table.specs.Calls.{planeSize, over, loadAnswer, loadedState, loadOutcome, loadValues, loadCare}
 
 -- the state of a heading in hand
-state-read : (file : List ℕ) (n m : ℕ) (order : List ℕ) → n ≡ inputsOf file → m ≡ outputsOf file
+state-read : (file : List ℕ) (n m : ℕ) (order : List ℕ) → n ≡ fileInputs file → m ≡ fileOutputs file
     → order ≡ map (λ p. cond (ltb p n) (byte file 0 (6 + p)) 0) (upTo 10)
     → record { n = n; m = m; order = order; count = 0; stage = AtTable } ≡ loadedState file
 state-read file n m order en em eo =
-    let o : order ≡ map (λ p. cond (ltb p (inputsOf file)) (byte file 0 (6 + p)) 0) (upTo 10) =
+    let o : order ≡ map (λ p. cond (ltb p (fileInputs file)) (byte file 0 (6 + p)) 0) (upTo 10) =
     eo ∙ ap (λ (k : ℕ). map (λ p. cond (ltb p k) (byte file 0 (6 + p)) 0) (upTo 10)) en in
     rw (en, em, o)
 
@@ -55,14 +55,14 @@ module _ (file values care : List ℕ) where
 
   -- a success leaves what the heading and the streams say
   pub loads : (s : State) (a : Answer) → loadAnswer file values care ≡ a → done a ≡ true
-      → (n m blocks : ℕ) (order v c : List ℕ) → n ≡ inputsOf file → m ≡ outputsOf file → blocks ≡ streamBlocks n m
+      → (n m blocks : ℕ) (order v c : List ℕ) → n ≡ fileInputs file → m ≡ fileOutputs file → blocks ≡ streamBlocks n m
       → order ≡ map (λ p. cond (ltb p n) (byte file 0 (6 + p)) 0) (upTo 10)
       → v ≡ over (streamByte file 1 blocks) planeSize values → c ≡ over (streamByte file (1 + blocks) blocks) planeSize care
       → (record { answer = a; state = record { n = n; m = m; order = order; count = 0; stage = AtTable } } ≡ loadOutcome s file values care)
       × ((v ≡ loadValues file values care) × (c ≡ loadCare file values care))
   unfolding loadOutcome loadValues loadCare
   loads s a e d n m blocks order v c en em eb eo ev ec =
-      let b : blocks ≡ streamBlocks (inputsOf file) (outputsOf file) = eb ∙ ap₂ streamBlocks en em in
+      let b : blocks ≡ streamBlocks (fileInputs file) (fileOutputs file) = eb ∙ ap₂ streamBlocks en em in
       rw (e, d) (
         ap (λ (t : State). record { answer = a; state = t }) (state-read file n m order en em eo),
         (

@@ -15,7 +15,7 @@ use Rattle.table.specs.declared.Stage.the-variants.{Table as AtTable}
 use Rattle.table.specs.Answer.{done}
 use Rattle.table.specs.Stream.{streamBit}
 use Rattle.table.specs.State.{goodHeading, orderOf, stageOf, isNothing}
-use Rattle.table.specs.File.{byte, inputsOf, outputsOf, fileOrder, streamBits, streamBlocks, contentBit, firstBit, streamByte, fileAnswer}
+use Rattle.table.specs.File.{byte, fileInputs, fileOutputs, fileOrder, streamBits, streamBlocks, contentBit, firstBit, streamByte, fileAnswer}
 use Rattle.table.specs.Calls.{planeSize, over, loadedState, loadedPlane}
 use Rattle.table.proofs.Over.{getD-over}
 use Rattle.table.proofs.Heading.{first-listed}
@@ -27,20 +27,20 @@ use Rattle.table.proofs.Held.{stage-good}
 -- the state
 
 pub heading-kept : (n m : ℕ) (order : List ℕ) → n ≤ 10 → 1 ≤ m → m ≤ 16 → T (isOrder n order) → T (goodHeading n m order)
-unfolding goodHeading mostVariables mostOutputs
+unfolding goodHeading
 heading-kept n m order h g k o =
     and-T (leb n 10) (leb 1 m && leb m 16 && isOrder n order) (le→leb n 10 h)
     (and-T (leb 1 m && leb m 16) (isOrder n order) (and-T (leb 1 m) (leb m 16) (le→leb 1 m g) (le→leb m 16 k)) o)
 
 module _ (file : List ℕ) (t : T (done (fileAnswer file))) where
   pub loaded-order : orderOf (loadedState file) ≡ fileOrder file
-  loaded-order = first-listed (λ p. byte file 0 (6 + p)) (inputsOf file) 10 (accepted file t .inputs)
+  loaded-order = first-listed (λ p. byte file 0 (6 + p)) (fileInputs file) 10 (accepted file t .inputs)
 
-  pub loaded-heading : T (goodHeading (inputsOf file) (outputsOf file) (orderOf (loadedState file)))
+  pub loaded-heading : T (goodHeading (fileInputs file) (fileOutputs file) (orderOf (loadedState file)))
   loaded-heading =
       let a : Accepted file = accepted file t in
-      heading-kept (inputsOf file) (outputsOf file) (orderOf (loadedState file)) (a .inputs) (a .one-output) (a .outputs)
-      (subst (λ (l : List ℕ). T (isOrder (inputsOf file) l)) (sym loaded-order) (a .order))
+      heading-kept (fileInputs file) (fileOutputs file) (orderOf (loadedState file)) (a .inputs) (a .one-output) (a .outputs)
+      (subst (λ (l : List ℕ). T (isOrder (fileInputs file) l)) (sym loaded-order) (a .order))
 
   pub loaded-stage : stageOf (loadedState file) ≡ AtTable
   loaded-stage = stage-good (loadedState file) (of-T loaded-heading)
@@ -97,46 +97,46 @@ unfolding streamBlocks
 enough-blocks n m = omega arith
 
 module _ (file : List ℕ) (t : T (done (fileAnswer file))) (c : Bool) (plane : List ℕ) (i : ℕ) where
-  stream-bit : i < streamBits (inputsOf file) (outputsOf file)
-      → streamBit (loadedPlane file (begins c (streamBlocks (inputsOf file) (outputsOf file))) plane) i
-      ≡ contentBit file (begins c (streamBlocks (inputsOf file) (outputsOf file)) + i / 4048) (i % 4048)
+  stream-bit : i < streamBits (fileInputs file) (fileOutputs file)
+      → streamBit (loadedPlane file (begins c (streamBlocks (fileInputs file) (fileOutputs file))) plane) i
+      ≡ contentBit file (begins c (streamBlocks (fileInputs file) (fileOutputs file)) + i / 4048) (i % 4048)
   stream-bit h =
-      let n : ℕ = inputsOf file in
-      let m : ℕ = outputsOf file in
+      let n : ℕ = fileInputs file in
+      let m : ℕ = fileOutputs file in
       let a : Accepted file = accepted file t in
       let l : m * 2 ^ n ≤ 16384 = stream-small n m (a .inputs) (a .outputs) in
       bit-inside file (begins c (streamBlocks n m)) (streamBlocks n m) plane i (omega arith) (omega (arith, enough-blocks n m))
 
   -- a bit past the stream's last stands in the stream's last block, which has a good tail, or past its blocks
-  stream-end : streamBits (inputsOf file) (outputsOf file) ≤ i → i < 16384
-      → streamBit (loadedPlane file (begins c (streamBlocks (inputsOf file) (outputsOf file))) plane) i ≡ false
+  stream-end : streamBits (fileInputs file) (fileOutputs file) ≤ i → i < 16384
+      → streamBit (loadedPlane file (begins c (streamBlocks (fileInputs file) (fileOutputs file))) plane) i ≡ false
   stream-end l h =
-      let b : ℕ = streamBlocks (inputsOf file) (outputsOf file) in
+      let b : ℕ = streamBlocks (fileInputs file) (fileOutputs file) in
       let k : ℕ = begins c b + i / 4048 in
       split (ltb i (4048 * b))
       (λ e. let g : i < 4048 * b = ltb-true i (4048 * b) e in
       let j : i / 4048 < b = omega arith in
       let r = begins-range c b (i / 4048) j in
       bit-inside file (begins c b) b plane i h g
-      ∙ spare-bit (streamBits (inputsOf file) (outputsOf file)) file k (firstBit b k) (accepted file t .blocks k (r .0) (r .1) .tail)
+      ∙ spare-bit (streamBits (fileInputs file) (fileOutputs file)) file k (firstBit b k) (accepted file t .blocks k (r .0) (r .1) .tail)
       (i % 4048) (omega arith) (omega (arith, begins-bit c b (i / 4048) j)))
       (λ e. bit-outside file (begins c b) b plane i h (ltb-false i (4048 * b) e))
 
 -- an accepted file's streams: values from block 1 on, care from the block after those on; and zeros past their last bits
 
 module _ (file : List ℕ) (t : T (done (fileAnswer file))) (plane : List ℕ) (i : ℕ) where
-  pub loaded-value : i < streamBits (inputsOf file) (outputsOf file)
+  pub loaded-value : i < streamBits (fileInputs file) (fileOutputs file)
       → streamBit (loadedPlane file 1 plane) i ≡ contentBit file (1 + i / 4048) (i % 4048)
   loaded-value = stream-bit file t false plane i
 
-  pub loaded-care : i < streamBits (inputsOf file) (outputsOf file)
-      → streamBit (loadedPlane file (1 + streamBlocks (inputsOf file) (outputsOf file)) plane) i
-      ≡ contentBit file (1 + streamBlocks (inputsOf file) (outputsOf file) + i / 4048) (i % 4048)
+  pub loaded-care : i < streamBits (fileInputs file) (fileOutputs file)
+      → streamBit (loadedPlane file (1 + streamBlocks (fileInputs file) (fileOutputs file)) plane) i
+      ≡ contentBit file (1 + streamBlocks (fileInputs file) (fileOutputs file) + i / 4048) (i % 4048)
   loaded-care = stream-bit file t true plane i
 
-  pub loaded-value-end : streamBits (inputsOf file) (outputsOf file) ≤ i → i < 16384 → streamBit (loadedPlane file 1 plane) i ≡ false
+  pub loaded-value-end : streamBits (fileInputs file) (fileOutputs file) ≤ i → i < 16384 → streamBit (loadedPlane file 1 plane) i ≡ false
   loaded-value-end = stream-end file t false plane i
 
-  pub loaded-care-end : streamBits (inputsOf file) (outputsOf file) ≤ i → i < 16384
-      → streamBit (loadedPlane file (1 + streamBlocks (inputsOf file) (outputsOf file)) plane) i ≡ false
+  pub loaded-care-end : streamBits (fileInputs file) (fileOutputs file) ≤ i → i < 16384
+      → streamBit (loadedPlane file (1 + streamBlocks (fileInputs file) (fileOutputs file)) plane) i ≡ false
   loaded-care-end = stream-end file t true plane i

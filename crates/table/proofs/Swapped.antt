@@ -12,7 +12,7 @@ use Rattle.diagram.specs.Order.{isOrder}
 use Rattle.diagram.proofs.Bools.{of-T}
 use Rattle.table.specs.declared.State.{State}
 use Rattle.table.specs.declared.Stage.the-variants.{Table as AtTable}
-use Rattle.table.specs.declared.Answer.the-variants.{Done, NoPlace, NoTable}
+use Rattle.table.specs.declared.Answer.the-variants.{Done, NoSuch, NoTable}
 use Rattle.table.specs.State.{orderOf, stageOf, isNothing, exchanged, reorderedState}
 use Rattle.table.specs.Calls.{swapAnswer, swapOutcome}
 use Rattle.table.proofs.Held.{few-inputs, some-outputs, few-outputs, ordered, good-order, stage-good}
@@ -23,7 +23,7 @@ module _ (s : State) (p : ℕ) where
   unfolding swapAnswer swapOutcome
   swap-no-table e = rw e
 
-  pub swap-no-place : not (isNothing (stageOf s)) ≡ true → s .n ≤ suc p → swapOutcome s p ≡ record { answer = NoPlace; state = s }
+  pub swap-no-place : not (isNothing (stageOf s)) ≡ true → s .n ≤ suc p → swapOutcome s p ≡ record { answer = NoSuch; state = s }
   unfolding swapAnswer swapOutcome
   swap-no-place e h = rw (e, le-ltb (suc p) (s .n) h)
 

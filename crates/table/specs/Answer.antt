@@ -4,7 +4,7 @@ use mathlib.Core.Bool.{Bool, cond}
 use Prim.Native.Nat.{ℕ}
 use lib.Dec.{eqb}
 use Rattle.table.specs.declared.Answer.{Answer}
-use Rattle.table.specs.declared.Answer.the-variants.{Done, BadLength, BadCheck, BadKind, BadInputs, BadOutputs, BadOrder, BadContent, NoRow, NoPlace, ShortBuffer, NoTable, NoNetwork, TooSmall, BadCells}
+use Rattle.table.specs.declared.Answer.the-variants.{Done, BadLength, BadCheck, BadKind, BadInputs, BadOutputs, BadOrder, BadContent, NoRow, NoSuch, ShortBuffer, NoTable, NoNetwork, TooSmall, BadCells}
 
 abbrev pub number : Answer → ℕ
 number (Done v) = 0
@@ -16,7 +16,7 @@ number BadOutputs = 5
 number BadOrder = 6
 number BadContent = 7
 number NoRow = 8
-number NoPlace = 9
+number NoSuch = 9
 number ShortBuffer = 10
 number NoTable = 21
 number NoNetwork = 22
@@ -34,7 +34,7 @@ value BadOutputs = 0
 value BadOrder = 0
 value BadContent = 0
 value NoRow = 0
-value NoPlace = 0
+value NoSuch = 0
 value ShortBuffer = 0
 value NoTable = 0
 value NoNetwork = 0

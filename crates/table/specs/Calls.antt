@@ -9,12 +9,12 @@ use Rattle.diagram.specs.Lists.{upTo}
 use Rattle.table.specs.declared.State.{State}
 use Rattle.table.specs.declared.Outcome.{Outcome}
 use Rattle.table.specs.declared.Answer.{Answer}
-use Rattle.table.specs.declared.Answer.the-variants.{Done, NoPlace, ShortBuffer, NoTable}
+use Rattle.table.specs.declared.Answer.the-variants.{Done, NoSuch, ShortBuffer, NoTable}
 use Rattle.table.specs.declared.Stage.the-variants.{Table as AtTable}
 use Rattle.table.specs.Answer.{unless, done}
 use Rattle.table.specs.Stream.{caredBits}
 use Rattle.table.specs.State.{stageOf, isNothing, exchanged, reorderedState}
-use Rattle.table.specs.File.{byte, inputsOf, outputsOf, streamBlocks, streamByte, fileAnswer}
+use Rattle.table.specs.File.{byte, fileInputs, fileOutputs, streamBlocks, streamByte, fileAnswer}
 
 -- the bytes of values or care that a call uses
 unfoldable pub planeSize : ℕ
@@ -33,16 +33,16 @@ loadAnswer file values care =
 abbrev pub loadedState : List ℕ → State
 loadedState file =
     record {
-      n = inputsOf file;
-      m = outputsOf file;
-      order = map (λ p. cond (ltb p (inputsOf file)) (byte file 0 (6 + p)) 0) (upTo 10);
+      n = fileInputs file;
+      m = fileOutputs file;
+      order = map (λ p. cond (ltb p (fileInputs file)) (byte file 0 (6 + p)) 0) (upTo 10);
       count = 0;
       stage = AtTable;
     }
 
 -- the stream that block `first` begins, from byte 0, and zeros to 2,048 bytes
 abbrev pub loadedPlane : List ℕ → ℕ → List ℕ → List ℕ
-loadedPlane file first plane = over (streamByte file first (streamBlocks (inputsOf file) (outputsOf file))) planeSize plane
+loadedPlane file first plane = over (streamByte file first (streamBlocks (fileInputs file) (fileOutputs file))) planeSize plane
 
 -- the outcome of a load; a refusal leaves the state
 unfoldable pub loadOutcome : State → List ℕ → List ℕ → List ℕ → Outcome
@@ -58,11 +58,11 @@ loadValues file values care = cond (done (loadAnswer file values care)) (loadedP
 unfoldable pub loadCare : List ℕ → List ℕ → List ℕ → List ℕ
 loadCare file values care =
     cond (done (loadAnswer file values care))
-    (loadedPlane file (1 + streamBlocks (inputsOf file) (outputsOf file)) care) care
+    (loadedPlane file (1 + streamBlocks (fileInputs file) (fileOutputs file)) care) care
 
 -- swap: 21, then 9
 unfoldable pub swapAnswer : State → ℕ → Answer
-swapAnswer s p = unless (not (isNothing (stageOf s))) NoTable (unless (ltb (suc p) (s .n)) NoPlace (Done 0))
+swapAnswer s p = unless (not (isNothing (stageOf s))) NoTable (unless (ltb (suc p) (s .n)) NoSuch (Done 0))
 
 unfoldable pub swapOutcome : State → ℕ → Outcome
 swapOutcome s p =

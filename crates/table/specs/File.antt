@@ -34,18 +34,18 @@ goodKind blocks file k =
     eqb (byte file k 0) (kindOf blocks k) && (eqb (byte file k 1) 0 && eqb (byte file k 2 + 256 * byte file k 3) k)
 
 -- the heading: n, m and the order
-abbrev pub inputsOf : List ℕ → ℕ
-inputsOf file = byte file 0 4
+abbrev pub fileInputs : List ℕ → ℕ
+fileInputs file = byte file 0 4
 
-abbrev pub outputsOf : List ℕ → ℕ
-outputsOf file = byte file 0 5
+abbrev pub fileOutputs : List ℕ → ℕ
+fileOutputs file = byte file 0 5
 
 abbrev pub fileOrder : List ℕ → List ℕ
-fileOrder file = map (λ p. byte file 0 (6 + p)) (upTo (inputsOf file))
+fileOrder file = map (λ p. byte file 0 (6 + p)) (upTo (fileInputs file))
 
 -- 'All other content is zero': of the heading, past the order
 unfoldable pub goodRest : List ℕ → Bool
-goodRest file = all (λ i. eqb (byte file 0 (6 + inputsOf file + i)) 0) (upTo (504 - inputsOf file))
+goodRest file = all (λ i. eqb (byte file 0 (6 + fileInputs file + i)) 0) (upTo (504 - fileInputs file))
 
 -- the bits of a stream, and its blocks: 'A block carries 4,048 of them'
 abbrev pub streamBits : ℕ → ℕ → ℕ
@@ -94,10 +94,10 @@ fileAnswer file =
     unless (leb 1 (length file) && eqb (length file % 512) 0) BadLength
     (unless (goodCheck file 0) BadCheck
     (unless (goodKind 0 file 0) BadKind
-    (unless (leb (inputsOf file) mostVariables) BadInputs
-    (unless (leb 1 (outputsOf file) && leb (outputsOf file) mostOutputs) BadOutputs
-    (unless (isOrder (inputsOf file) (fileOrder file)) BadOrder
-    (unless (goodRest file) BadContent (streamsAnswer file (inputsOf file) (outputsOf file))))))))
+    (unless (leb (fileInputs file) mostVariables) BadInputs
+    (unless (leb 1 (fileOutputs file) && leb (fileOutputs file) mostOutputs) BadOutputs
+    (unless (isOrder (fileInputs file) (fileOrder file)) BadOrder
+    (unless (goodRest file) BadContent (streamsAnswer file (fileInputs file) (fileOutputs file))))))))
 
 -- byte i of the stream that block `first` begins: a block carries 506 bytes of it; past its blocks there is none
 unfoldable pub streamByte : List ℕ → ℕ → ℕ → ℕ → ℕ

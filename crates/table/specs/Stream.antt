@@ -16,6 +16,11 @@ abbrev pub sum : (ℕ → ℕ) → ℕ → ℕ
 sum f zero = 0
 sum f (suc k) = sum f k + f k
 
+-- bits 0 to k - 1 as a number, bit 0 the lowest
+abbrev pub packed : ℕ → (ℕ → Bool) → ℕ
+packed zero f = 0
+packed (suc k) f = packed k f + digit (f k) * 2 ^ k
+
 -- k bytes from byte `at` on as a number, the lowest first
 abbrev pub wordOf : List ℕ → ℕ → ℕ → ℕ
 wordOf bytes at zero = 0

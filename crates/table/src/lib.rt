@@ -7,11 +7,9 @@ pub mod order;
 pub mod swap;
 pub mod valid;
 
-// The most variables, outputs, and bytes of values or care that a table has.
-pub const VARIABLES: usize = 10;
+use diagram::VARIABLES;
 
-pub const OUTPUTS: usize = 16;
-
+// The bytes of values or care that a call uses; specs/Calls.antt has the definition, `planeSize`.
 pub const PLANE: usize = 2048;
 
 pub enum Stage {
@@ -24,7 +22,7 @@ pub enum Stage {
 pub struct State {
     pub n: usize,
     pub m: usize,
-    pub order: [usize; 10],
+    pub order: [usize; VARIABLES],
     pub count: usize,
     pub stage: Stage,
 }
@@ -40,7 +38,7 @@ pub enum Answer {
     BadOrder,
     BadContent,
     NoRow,
-    NoPlace,
+    NoSuch,
     ShortBuffer,
     NoTable,
     NoNetwork,

@@ -1,11 +1,9 @@
 // Reading a table file: the whole file is found good before a byte is written (document 01, sections 1, 2 and 6).
 use crate::Answer;
-use crate::OUTPUTS;
 use crate::Outcome;
 use crate::PLANE;
 use crate::Stage;
 use crate::State;
-use crate::VARIABLES;
 use crate::bits::byte_at;
 use crate::block::all_zero;
 use crate::block::block_byte;
@@ -14,6 +12,8 @@ use crate::block::good_kind;
 use crate::block::good_tail;
 use crate::order::is_order;
 use crate::order::read_order;
+use diagram::OUTPUTS;
+use diagram::VARIABLES;
 ghost use mathlib.Core.Path.{_≡_};
 ghost use Prim.Native.Nat.{ℕ, _+_, _*_, _/_, _≤_, _<_};
 ghost use lib.ListN.{length};
@@ -164,7 +164,7 @@ pub fn unloaded() -> State
     State {
         n: 0,
         m: 0,
-        order: [0; 10],
+        order: [0; VARIABLES],
         count: 0,
         stage: Stage::Nothing,
     }

@@ -1,6 +1,6 @@
 // Orders of the variables: the variable at each level, the top level first (document 01, sections 1 and 2).
-use crate::VARIABLES;
 use crate::block::block_byte;
+use diagram::VARIABLES;
 ghost use mathlib.Core.Path.{_≡_};
 ghost use mathlib.Core.Bool.{cond};
 ghost use mathlib.Core.List.{map};
@@ -12,7 +12,7 @@ ghost use Rattle.diagram.specs.Order.{isOrder};
 ghost use Rattle.table.specs.File.{byte};
 
 // Whether the variable at level i stands again at a later level below n.
-fn repeated(order: [usize; 10], n: usize, i: usize) -> bool
+fn repeated(order: [usize; VARIABLES], n: usize, i: usize) -> bool
     requires { ⌜ (n ≤ 10) × (i < n) ⌝ }
     ensures { λ r. ⌜ r ≡ has eqb (getD order i 0) (drop (suc i) (take n order)) ⌝ }
 {
@@ -28,7 +28,7 @@ fn repeated(order: [usize; 10], n: usize, i: usize) -> bool
 }
 
 // Whether the first n entries have each of the n variables once.
-pub(crate) fn is_order(order: [usize; 10], n: usize) -> bool
+pub(crate) fn is_order(order: [usize; VARIABLES], n: usize) -> bool
     requires { ⌜ n ≤ 10 ⌝ }
     ensures { λ r. ⌜ r ≡ isOrder n (take n order) ⌝ }
 {
@@ -46,11 +46,11 @@ pub(crate) fn is_order(order: [usize; 10], n: usize) -> bool
 }
 
 // The heading's order, and zeros past n.
-pub(crate) fn read_order(file: &[u8], n: usize) -> [usize; 10]
+pub(crate) fn read_order(file: &[u8], n: usize) -> [usize; VARIABLES]
     requires { ⌜ n ≤ 10 ⌝ }
     ensures { λ r. ⌜ r ≡ map (λ p. cond (ltb p n) (byte (now (file .entry)) 0 (6 + p)) 0) (upTo 10) ⌝ }
 {
-    let mut order = [0usize; 10];
+    let mut order = [0usize; VARIABLES];
     let mut p: usize = 0;
     while p < n {
         order[p] = block_byte(file, 0, 6 + p);
@@ -60,7 +60,7 @@ pub(crate) fn read_order(file: &[u8], n: usize) -> [usize; 10]
 }
 
 // The level of v among the first n, or n where it has none.
-fn place_among(order: [usize; 10], n: usize, v: usize) -> usize
+fn level_among(order: [usize; VARIABLES], n: usize, v: usize) -> usize
     requires { ⌜ n ≤ 10 ⌝ }
     ensures { λ r. ⌜ r ≡ index eqb v (take n order) ⌝ }
 {
@@ -75,11 +75,11 @@ fn place_among(order: [usize; 10], n: usize, v: usize) -> usize
 }
 
 // The level of v in an order of n variables, or the order's length where it has none.
-pub fn place_of(order: [usize; 10], n: usize, v: usize) -> usize
+pub fn level_of(order: [usize; VARIABLES], n: usize, v: usize) -> usize
     ensures { λ r. ⌜ r ≡ index eqb v (take n order) ⌝ }
 {
     if VARIABLES < n {
-        return place_among(order, VARIABLES, v);
+        return level_among(order, VARIABLES, v);
     }
-    place_among(order, n, v)
+    level_among(order, n, v)
 }

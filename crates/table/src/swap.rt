@@ -4,13 +4,14 @@ use crate::Outcome;
 use crate::Stage;
 use crate::State;
 use crate::valid::holds_table;
+use diagram::VARIABLES;
 ghost use mathlib.Core.Path.{_≡_};
 ghost use Prim.Native.Nat.{_<_};
 ghost use Rattle.table.specs.State.{exchanged};
 ghost use Rattle.table.specs.Calls.{swapOutcome};
 
 // The order with places p and p + 1 exchanged.
-fn exchange(order: [usize; 10], p: usize) -> [usize; 10]
+fn exchange(order: [usize; VARIABLES], p: usize) -> [usize; VARIABLES]
     requires { ⌜ p < 9 ⌝ }
     ensures { λ r. ⌜ r ≡ exchanged p order ⌝ }
 {
@@ -35,13 +36,13 @@ pub fn swap(state: State, p: usize) -> Outcome
     let n = state.n;
     if n == 0 {
         return Outcome {
-            answer: Answer::NoPlace,
+            answer: Answer::NoSuch,
             state,
         };
     }
     if n - 1 <= p {
         return Outcome {
-            answer: Answer::NoPlace,
+            answer: Answer::NoSuch,
             state,
         };
     }

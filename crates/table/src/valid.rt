@@ -1,16 +1,16 @@
 // Which stage a state counts as: one that breaks the heading's rules counts as nothing (document 01, section 2).
-use crate::OUTPUTS;
 use crate::Stage;
 use crate::State;
-use crate::VARIABLES;
 use crate::order::is_order;
+use diagram::OUTPUTS;
+use diagram::VARIABLES;
 ghost use mathlib.Core.Path.{_≡_};
 ghost use mathlib.Core.Bool.{not};
 ghost use lib.ListN.{take};
 ghost use Rattle.table.specs.State.{goodHeading, stageOf, isNothing, isNetwork};
 
 // Whether n, m and the first n entries of the order keep the heading's rules.
-pub fn good_heading(n: usize, m: usize, order: [usize; 10]) -> bool
+pub fn good_heading(n: usize, m: usize, order: [usize; VARIABLES]) -> bool
     ensures { λ r. ⌜ r ≡ goodHeading n m (take n order) ⌝ }
 {
     if VARIABLES < n {

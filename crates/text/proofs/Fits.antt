@@ -96,7 +96,7 @@ module _ (s : State) (cared : ℕ) (roots cells : List ℕ)
     (entry : (i : ℕ) → i < s .n → getD (s .order) i 0 < 100000) (root : (j : ℕ) → j < s .m → getD roots j 0 < 65536)
     (cell : (i : ℕ) → i < 3 * s .count → getD cells i 0 < 65536) where
   order-few : length (stateOrder s) ≤ 66
-  unfolding stateOrder orderLine mostVariables
+  unfolding stateOrder orderLine
   order-few =
       let n = min (s .n) 10 in
       let f : ℕ → List ℕ = λ i. spaced (getD (s .order) i 0) in

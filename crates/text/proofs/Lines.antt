@@ -59,7 +59,7 @@ written-root roots p a f u v w e = written-then u (written-then v (written-then 
 
 pub written-order : {l m n o : List ℕ} {i j k q : ℕ} (s : State) (a : ℕ) → a ≡ min (s .n) 10 → Written l m i j order-word
     → Written m n j k (joined (λ p. spaced (getD (s .order) p 0)) a) → Written n o k q (10 ∷ []) → Written l o i q (stateOrder s)
-unfolding stateOrder orderLine mostVariables
+unfolding stateOrder orderLine
 written-order s a e u v w =
     written-then u (written-then (written-as (ap (joined (λ p. spaced (getD (s .order) p 0))) e) v) w)
 

@@ -10,7 +10,7 @@ use lib.ListN.{length}
 use Rattle.diagram.proofs.Bools.{split, to-T, of-T, absurd-T, and-l, and-r}
 use Rattle.table.specs.Answer.{done}
 use Rattle.table.specs.State.{orderOf, stageOf, isNothing}
-use Rattle.table.specs.File.{inputsOf, outputsOf, fileOrder, streamBlocks, streamByte, fileAnswer}
+use Rattle.table.specs.File.{fileInputs, fileOutputs, fileOrder, streamBlocks, streamByte, fileAnswer}
 use Rattle.table.specs.Calls.{planeSize, loadAnswer, loadedState, loadOutcome, loadValues, loadCare}
 use Rattle.table.proofs.Over.{length-over}
 use Rattle.table.proofs.Loaded as table-loaded
@@ -86,10 +86,10 @@ module _ (file values care : List ℕ) (e : isRead file values care ≡ true) wh
   pub values-length : length (inputValues file values care) ≡ length values
   unfolding inputValues loadValues
   values-length =
-      rw (short, loads) (length-over (streamByte file 1 (streamBlocks (inputsOf file) (outputsOf file))) planeSize values values-enough)
+      rw (short, loads) (length-over (streamByte file 1 (streamBlocks (fileInputs file) (fileOutputs file))) planeSize values values-enough)
 
   pub care-length : length (inputCare file values care) ≡ length care
   unfolding inputCare loadCare
   care-length =
-      let blocks = streamBlocks (inputsOf file) (outputsOf file) in
+      let blocks = streamBlocks (fileInputs file) (fileOutputs file) in
       rw (short, loads) (length-over (streamByte file (1 + blocks) blocks) planeSize care care-enough)

@@ -13,7 +13,7 @@ use Rattle.diagram.proofs.Bools.{split, to-T, absurd-T}
 use Rattle.diagram.proofs.Bits.{digit-le}
 use Rattle.diagram.proofs.Order.{order-at}
 use Rattle.table.specs.declared.Answer.{Answer}
-use Rattle.table.specs.declared.Answer.the-variants.{Done, BadLength, BadCheck, BadKind, BadInputs, BadOutputs, BadOrder, BadContent, NoRow, NoPlace, ShortBuffer, NoTable, NoNetwork, TooSmall, BadCells}
+use Rattle.table.specs.declared.Answer.the-variants.{Done, BadLength, BadCheck, BadKind, BadInputs, BadOutputs, BadOrder, BadContent, NoRow, NoSuch, ShortBuffer, NoTable, NoNetwork, TooSmall, BadCells}
 use Rattle.table.specs.declared.Outcome.{Outcome}
 use Rattle.table.specs.declared.State.{State}
 use Rattle.table.specs.Answer.{number, value, done}
@@ -44,7 +44,7 @@ number-few BadOutputs = omega arith
 number-few BadOrder = omega arith
 number-few BadContent = omega arith
 number-few NoRow = omega arith
-number-few NoPlace = omega arith
+number-few NoSuch = omega arith
 number-few ShortBuffer = omega arith
 number-few NoTable = omega arith
 number-few NoNetwork = omega arith

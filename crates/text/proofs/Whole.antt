@@ -26,7 +26,7 @@ use Rattle.text.proofs.Loaded.{read-held, values-long, care-long, value
 module _ (s : State) (values care work roots cells : List ℕ) where
   pub build-done : isNothing (stageOf s) ≡ false → 2048 ≤ length values → 2048 ≤ length care → 32768 ≤ length work → 16 ≤ length roots
       → mostNodes ≤ capacity cells → buildAnswer s values care work roots cells ≡ Done (wanted s values care)
-  unfolding buildAnswer planeSize workSize rootsSize mostNodes
+  unfolding buildAnswer planeSize workSize rootsSize
   build-done e v c w r b =
       let few = few-wanted s values care (to-not e) in
       rw (

@@ -4,7 +4,7 @@ use crate::put::put_byte;
 use crate::put::put_line;
 use crate::put::put_number;
 use crate::put::put_word;
-use network::cells::number_at;
+use network::cells::lent_number;
 use table::State;
 use table::valid::holds_network;
 ghost use mathlib.Core.Path.{_≡_};
@@ -18,9 +18,9 @@ fn put_node(out: &mut [u8], at: usize, cells: &[u16], i: usize) -> usize
     requires { ⌜ (at ≤ length (now out)) × (i < length (now cells)) ⌝ }
     ensures { λ r. ⌜ Written (now (out .entry)) (now (out .exit)) at r (nodeText (now (cells .entry)) i) ⌝ }
 {
-    let low = put_number(out, at, number_at(cells, 3 * i));
-    let high = put_number(out, low, number_at(cells, 3 * i + 1));
-    let end = put_number(out, high, number_at(cells, 3 * i + 2));
+    let low = put_number(out, at, lent_number(cells, 3 * i));
+    let high = put_number(out, low, lent_number(cells, 3 * i + 1));
+    let end = put_number(out, high, lent_number(cells, 3 * i + 2));
     put_byte(out, end, 10)
 }
 
@@ -60,7 +60,7 @@ fn put_root(out: &mut [u8], at: usize, roots: &[u16], j: usize) -> usize
 {
     let output = put_word(out, at, b"root");
     let root = put_number(out, output, j);
-    let end = put_number(out, root, number_at(roots, j));
+    let end = put_number(out, root, lent_number(roots, j));
     put_byte(out, end, 10)
 }
 

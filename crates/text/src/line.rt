@@ -5,9 +5,9 @@ use crate::put::put_byte;
 use crate::put::put_line;
 use crate::put::put_number;
 use crate::put::put_word;
+use diagram::VARIABLES;
 use table::Answer;
 use table::State;
-use table::VARIABLES;
 ghost use Prim.Native.Nat.{ℕ, _≤_, min};
 ghost use mathlib.Core.Path.{_≡_};
 ghost use lib.ListN.{length, getD};
@@ -49,7 +49,7 @@ pub fn row_line(out: &mut [u8], row: usize, answer: Answer) -> usize
 }
 
 // The first n entries of an order, a space before each.
-fn put_entries(out: &mut [u8], at: usize, n: usize, order: [usize; 10]) -> usize
+fn put_entries(out: &mut [u8], at: usize, n: usize, order: [usize; VARIABLES]) -> usize
     requires { ⌜ (at ≤ length (now out)) × (n ≤ 10) ⌝ }
     ensures { λ r. ⌜ Written (now (out .entry)) (now (out .exit)) at r (joined (λ i. spaced (getD order i 0)) n) ⌝ }
 {

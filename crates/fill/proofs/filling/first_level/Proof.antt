@@ -8,7 +8,7 @@ use native.Mathlib.Omega.{arith}
 use Rattle.diagram.specs.Lists.{upTo}
 use Rattle.table.specs.Calls.{over}
 use Rattle.table.proofs.Held.{few-inputs, few-outputs, ordered}
-use Rattle.fill.specs.Gather.{placesOf, rowOf, gatheredPart}
+use Rattle.fill.specs.Gather.{variableLevels, rowOf, gatheredPart}
 use Rattle.fill.specs.Calls.{drawnOutputs}
 use Rattle.fill.specs.Filling.{firstWork}
 use Rattle.fill.proofs.Gathered.{places-below}
@@ -35,14 +35,14 @@ rows-requires c κs =
       omega (arith, s .pre .1 .0),
     )
 
-abbrev zeroed : tie.After-place-outputs-arg3 → tie.After-zero
+abbrev zeroed : tie.After-link-outputs-arg3 → tie.After-zero
 zeroed c = c .before .before .before .before .before .before .before .before .before .before
 
-abbrev begun : tie.After-place-outputs-arg3 → tie.Start
+abbrev begun : tie.After-link-outputs-arg3 → tie.Start
 begun c = zeroed c .before .before .before .before .before .before .before .before
 
-place-outputs-requires : tie.Need-place-outputs-requires
-place-outputs-requires c κs =
+link-outputs-requires : tie.Need-link-outputs-requires
+link-outputs-requires c κs =
     let s = begun c in
     let a = s .args .state in
     let z = zeroed c .zero in
@@ -73,12 +73,12 @@ returns c =
     let p = t .before .before .before .before .before .before .before .places in
     let rows = r .last .1 .1 .0 in
     let over-rows : List ℕ → List ℕ = λ q. over (rowOf (st .n) q) (2 ^ st .n) (now (a .map)) in
-    let e : rows ≡ over-rows (placesOf (st .n) (st .order)) = r .ensures ∙ ap over-rows (p .ensures) in
+    let e : rows ≡ over-rows (variableLevels (st .n) (st .order)) = r .ensures ∙ ap over-rows (p .ensures) in
     first-is (drawnOutputs st (now (a .values)) (now (a .care))) (now (a .work)) (z .last .1 .1 .0)
     (map (gatheredPart (now (a .values)) (now (a .care)) rows (st .n)) (upTo (st .m)))
-    (d .place-outputs .result) (d .place-outputs .last .1 .1 .1 .1 .1 .0)
+    (d .link-outputs .result) (d .link-outputs .last .1 .1 .1 .1 .1 .0)
     (outputs-encode (st .n) (st .m) (now (a .values)) (now (a .care)) (st .order) rows (now (a .map)) (few-inputs st (s .pre .0)) e)
-    (zero-start 32768 (now (a .work)) (z .last .1 .1 .0) refl (z .ensures)) (d .place-outputs .ensures .0) (d .place-outputs .ensures .1)
+    (zero-start 32768 (now (a .work)) (z .last .1 .1 .0) refl (z .ensures)) (d .link-outputs .ensures .0) (d .link-outputs .ensures .1)
 
 pub first-level-spec : {M : Type 1} → statement M
 first-level-spec =
@@ -87,7 +87,7 @@ first-level-spec =
     zero-requires
     places-requires
     rows-requires
-    place-outputs-requires
+    link-outputs-requires
     same-length
     same-length-2
     same-length-3

@@ -8,7 +8,7 @@ use lib.Dec.{eqb}
 use lib.ListN.{take}
 use Rattle.diagram.specs.Lists.{index}
 use Rattle.table.proofs.Filled.{filled, filled-more}
-use Rattle.fill.specs.Gather.{placesOf}
+use Rattle.fill.specs.Gather.{variableLevels}
 use Rattle.fill.proofs.gather.places.Statement.{statement}
 use Rattle.fill.proofs.gather.places.Tie as tie
 
@@ -21,8 +21,8 @@ abbrev μ-loop : tie.MeasureT-loop
 loop-holds : tie.Need-loop-holds Inv-loop μ-loop
 loop-holds c = search needs
 
-place-of-requires : tie.Need-place-of-requires Inv-loop μ-loop
-place-of-requires c κs = search needs
+level-of-requires : tie.Need-level-of-requires Inv-loop μ-loop
+level-of-requires c κs = search needs
 
 mul-places : tie.Need-mul-places Inv-loop μ-loop
 mul-places c = search needs
@@ -41,12 +41,12 @@ loop-again c =
     let a = c .before .before .before .args in
     let l = c .before .before .loop in (
       search needs,
-      filled-more (λ w. index eqb w (take (a .n) (a .order))) 10 (l .v) (omega arith) (l .places) (c .place-of .result) (l .inv .1)
-          (c .place-of .ensures),
+      filled-more (λ w. index eqb w (take (a .n) (a .order))) 10 (l .v) (omega arith) (l .places) (c .level-of .result) (l .inv .1)
+          (c .level-of .ensures),
     )
 
 returns : tie.Need-returns Inv-loop μ-loop
-unfolding placesOf
+unfolding variableLevels
 returns c =
     let a = c .before .before .args in
     let l = c .before .loop in
@@ -60,7 +60,7 @@ places-spec =
     Inv-loop
     μ-loop
     loop-holds
-    place-of-requires
+    level-of-requires
     mul-places
     array-write-places
     add-v

@@ -69,8 +69,8 @@ mul-l c = search needs
 add-l : tie.Need-add-l Inv-loop μ-loop
 add-l c = search needs
 
-place-halves-requires : tie.Need-place-halves-requires Inv-loop μ-loop
-place-halves-requires c κs =
+link-halves-requires : tie.Need-link-halves-requires Inv-loop μ-loop
+link-halves-requires c κs =
     let i = c .before .before in
     let l = i .before in
     let s = begun i in
@@ -91,7 +91,7 @@ loop-again c =
     let l = i .before in
     let s = begun i in
     let a = s .args in
-    let h = c .before .before .before .before .place-halves in
+    let h = c .before .before .before .before .link-halves in
     let t = turn-done (a .d) (a .from) (a .count) (a .to) (a .links) (a .work .now) (a .cand .now) (s .pre .1 .0) (s .pre .1 .1 .0) (s .pre .1 .1 .1 .0)
     (l .loop .e) (place i) (i .loop-test .taken) (at-part i)
     (l .loop .k) (a .links + 4 * l .loop .e) (h .result) (l .loop .work) (h .last .1 .1 .1 .1 .1 .0) (l .loop .cand) (h .last .1 .1 .1 .1 .1 .1 .0)
@@ -127,7 +127,7 @@ level-spec =
     add-a-2
     mul-l
     add-l
-    place-halves-requires
+    link-halves-requires
     add-e
     loop-less
     loop-again

@@ -24,19 +24,19 @@ returns-2 c =
     let a = c .before .before .before .args in
     sym (later-past (a .count) (now (a .cells)) (a .p) (a .r) (search needs) (search needs))
 
-sub-number-at : tie.Need-sub-number-at
-sub-number-at c = search needs
+sub-lent-number : tie.Need-sub-lent-number
+sub-lent-number c = search needs
 
-mul-number-at : tie.Need-mul-number-at
-mul-number-at c = search needs
+mul-lent-number : tie.Need-mul-lent-number
+mul-lent-number c = search needs
 
-number-at-requires : tie.Need-number-at-requires
-number-at-requires c κs = search needs
+lent-number-requires : tie.Need-lent-number-requires
+lent-number-requires c κs = search needs
 
 returns-3 : tie.Need-returns-3
 returns-3 c =
     let a = c .before .before .before .before .args in
-    ap (ltb (a .p)) (c .number-at .ensures .0)
+    ap (ltb (a .p)) (c .lent-number .ensures .0)
     ∙ sym (later-own (a .count) (now (a .cells)) (a .p) (a .r) (search needs) (search needs))
 
 pub later-than-spec : {M : Type 1} → statement M
@@ -47,7 +47,7 @@ later-than-spec =
     add-if2
     add-if2-2
     returns-2
-    sub-number-at
-    mul-number-at
-    number-at-requires
+    sub-lent-number
+    mul-lent-number
+    lent-number-requires
     returns-3)

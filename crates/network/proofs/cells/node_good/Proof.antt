@@ -11,20 +11,20 @@ use Rattle.network.proofs.cells.node_good.Tie as tie
 mul-first : tie.Need-mul-first
 mul-first c = search needs
 
-number-at-requires : tie.Need-number-at-requires
-number-at-requires c κs = search needs
+lent-number-requires : tie.Need-lent-number-requires
+lent-number-requires c κs = search needs
 
 returns : tie.Need-returns
 returns c =
     let a = c .before .before .before .args in
-    let p = c .before .number-at in
+    let p = c .before .lent-number in
     sym (node-deep (a .count) (now (a .cells)) (a .n) (a .i) (p .result) (p .ensures .0) (search needs))
 
-add-number-at : tie.Need-add-number-at
-add-number-at c = search needs
+add-lent-number : tie.Need-add-lent-number
+add-lent-number c = search needs
 
-number-at-requires-2 : tie.Need-number-at-requires-2
-number-at-requires-2 c κs = search needs
+lent-number-requires-2 : tie.Need-lent-number-requires-2
+lent-number-requires-2 c κs = search needs
 
 later-than-requires : tie.Need-later-than-requires
 later-than-requires c κs = search needs
@@ -32,18 +32,18 @@ later-than-requires c κs = search needs
 returns-2 : tie.Need-returns-2
 returns-2 c =
     let a = c .before .before .before .before .before .before .args in
-    let p = c .before .before .before .before .number-at in
-    let l = c .before .before .number-at2 in
+    let p = c .before .before .before .before .lent-number in
+    let l = c .before .before .lent-number2 in
     let t = c .before .later-than in
     sym
     (node-low-bad (a .count) (now (a .cells)) (a .n) (a .i) (p .result) (p .ensures .0) (l .result) (l .ensures .0)
     (sym (t .ensures) ∙ not-true (t .result) (c .if2 .taken)))
 
-add-number-at-2 : tie.Need-add-number-at-2
-add-number-at-2 c = search needs
+add-lent-number-2 : tie.Need-add-lent-number-2
+add-lent-number-2 c = search needs
 
-number-at-requires-3 : tie.Need-number-at-requires-3
-number-at-requires-3 c κs = search needs
+lent-number-requires-3 : tie.Need-lent-number-requires-3
+lent-number-requires-3 c κs = search needs
 
 later-than-requires-2 : tie.Need-later-than-requires-2
 later-than-requires-2 c κs = search needs
@@ -51,10 +51,10 @@ later-than-requires-2 c κs = search needs
 returns-3 : tie.Need-returns-3
 returns-3 c =
     let a = c .before .before .before .before .before .before .before .before .args in
-    let p = c .before .before .before .before .before .before .number-at in
-    let l = c .before .before .before .before .number-at2 in
+    let p = c .before .before .before .before .before .before .lent-number in
+    let l = c .before .before .before .before .lent-number2 in
     let t = c .before .before .before .later-than in
-    let h = c .before .number-at3 in
+    let h = c .before .lent-number3 in
     c .later-than2 .ensures
     ∙ sym
     (node-low-good (a .count) (now (a .cells)) (a .n) (a .i) (p .result) (p .ensures .0) (l .result) (l .ensures .0)
@@ -66,13 +66,13 @@ node-good-spec =
     tie.close
     (tie.spec
     mul-first
-    number-at-requires
+    lent-number-requires
     returns
-    add-number-at
-    number-at-requires-2
+    add-lent-number
+    lent-number-requires-2
     later-than-requires
     returns-2
-    add-number-at-2
-    number-at-requires-3
+    add-lent-number-2
+    lent-number-requires-3
     later-than-requires-2
     returns-3)

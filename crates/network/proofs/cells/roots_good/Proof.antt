@@ -25,14 +25,14 @@ add-most-2 c = search needs
 loop-holds : tie.Need-loop-holds Inv-loop μ-loop
 loop-holds c = (search needs, refl)
 
-number-at-requires : tie.Need-number-at-requires Inv-loop μ-loop
-number-at-requires c κs = search needs
+lent-number-requires : tie.Need-lent-number-requires Inv-loop μ-loop
+lent-number-requires c κs = search needs
 
 returns : tie.Need-returns Inv-loop μ-loop
 returns c =
     let b = c .before .before .before .before .before .before in
     let a = b .args in
-    let g = c .before .number-at in
+    let g = c .before .lent-number in
     sym (roots-bad (a .count) (now (a .cells)) (now (a .roots)) (a .m) (b .pre .1) (c .before .before .before .loop .j) (g .result)
     (search needs) (g .ensures .0) (search needs))
 
@@ -47,7 +47,7 @@ loop-again c =
     let b = c .before .before .before .before .before .before in
     let a = b .args in
     let l = c .before .before .before .loop in
-    let g = c .before .number-at in (
+    let g = c .before .lent-number in (
       search needs,
       roots-more (a .count) (now (a .cells)) (now (a .roots)) (a .m) (b .pre .1) (l .j) (g .result) (g .ensures .0) (search needs) (l .inv .1),
     )
@@ -68,7 +68,7 @@ roots-good-spec =
     add-most
     add-most-2
     loop-holds
-    number-at-requires
+    lent-number-requires
     returns
     add-j
     loop-less

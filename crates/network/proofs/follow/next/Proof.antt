@@ -18,8 +18,8 @@ mul-first c =
     let a = b .args in
     omega (arith, own-le (a .n) (a .count) (a .order) (now (a .cells)) (b .pre .0) (a .r) (b .pre .1 .0) (b .pre .1 .1), b .pre .0 .held)
 
-number-at-requires : tie.Need-number-at-requires
-number-at-requires c κs = search needs
+lent-number-requires : tie.Need-lent-number-requires
+lent-number-requires c κs = search needs
 
 bit-under-requires : tie.Need-bit-under-requires
 bit-under-requires c κs =
@@ -29,45 +29,45 @@ bit-under-requires c κs =
       (
         b .pre .0 .ordered,
         omega
-            (arith, c .number-at .ensures .0, level-below (a .n) (a .count) (a .order) (now (a .cells)) (b .pre .0) (a .r) (b .pre .1 .0) (b .pre .1 .1)),
+            (arith, c .lent-number .ensures .0, level-below (a .n) (a .count) (a .order) (now (a .cells)) (b .pre .0) (a .r) (b .pre .1 .0) (b .pre .1 .1)),
       ),
     )
 
-add-number-at : tie.Need-add-number-at
-add-number-at c =
+add-lent-number : tie.Need-add-lent-number
+add-lent-number c =
     let b = c .before .before .before .before in
     let a = b .args in
     omega (arith, own-le (a .n) (a .count) (a .order) (now (a .cells)) (b .pre .0) (a .r) (b .pre .1 .0) (b .pre .1 .1), b .pre .0 .held)
 
-number-at-requires-2 : tie.Need-number-at-requires-2
-number-at-requires-2 c κs = search needs
+lent-number-requires-2 : tie.Need-lent-number-requires-2
+lent-number-requires-2 c κs = search needs
 
 returns : tie.Need-returns
 returns c =
     let b = c .before .before .before .before .before in
     let a = b .args in
-    let p = c .before .before .before .number-at in
+    let p = c .before .before .before .lent-number in
     let t = c .before .before .bit-under in
-    c .number-at2 .ensures .0
+    c .lent-number2 .ensures .0
     ∙ edge-behind (a .n) (a .count) (a .order) (now (a .cells)) (b .pre .0) (a .r) (b .pre .1 .0) (b .pre .1 .1) (a .row)
     (p .result) (p .ensures .0) true (sym (c .before .if1 .taken) ∙ t .ensures)
 
-add-number-at-2 : tie.Need-add-number-at-2
-add-number-at-2 c =
+add-lent-number-2 : tie.Need-add-lent-number-2
+add-lent-number-2 c =
     let b = c .before .before .before .before in
     let a = b .args in
     omega (arith, own-le (a .n) (a .count) (a .order) (now (a .cells)) (b .pre .0) (a .r) (b .pre .1 .0) (b .pre .1 .1), b .pre .0 .held)
 
-number-at-requires-3 : tie.Need-number-at-requires-3
-number-at-requires-3 c κs = search needs
+lent-number-requires-3 : tie.Need-lent-number-requires-3
+lent-number-requires-3 c κs = search needs
 
 returns-2 : tie.Need-returns-2
 returns-2 c =
     let b = c .before .before .before .before .before in
     let a = b .args in
-    let p = c .before .before .before .number-at in
+    let p = c .before .before .before .lent-number in
     let t = c .before .before .bit-under in
-    c .number-at3 .ensures .0
+    c .lent-number3 .ensures .0
     ∙ edge-behind (a .n) (a .count) (a .order) (now (a .cells)) (b .pre .0) (a .r) (b .pre .1 .0) (b .pre .1 .1) (a .row)
     (p .result) (p .ensures .0) false (sym (c .before .if1 .left) ∙ t .ensures)
 
@@ -77,11 +77,11 @@ next-spec =
     (tie.spec
     sub-first
     mul-first
-    number-at-requires
+    lent-number-requires
     bit-under-requires
-    add-number-at
-    number-at-requires-2
+    add-lent-number
+    lent-number-requires-2
     returns
-    add-number-at-2
-    number-at-requires-3
+    add-lent-number-2
+    lent-number-requires-3
     returns-2)

@@ -7,14 +7,14 @@ use Prim.Native.Nat.{ℕ, _≤_, _-_}
 use native.Mathlib.Omega.{arith}
 use denote.Ref.{now}
 use Rattle.network.specs.Cells.{lentCells, outputAt}
-use Rattle.network.specs.Evaluate.{outputsOf}
+use Rattle.table.specs.Stream.{packed}
 use Rattle.network.proofs.Outputs.{root-own, output-found, output-small, output-one, output-zero}
 use Rattle.network.proofs.follow.outputs.Statement.{statement}
 use Rattle.network.proofs.follow.outputs.Tie as tie
 
 abbrev Inv-loop : tie.InvT-loop
 Inv-loop cells count roots m order n row total₀ j₀ total j =
-    (j ≤ m) × (total ≡ outputsOf j (outputAt n count order cells row roots))
+    (j ≤ m) × (total ≡ packed j (outputAt n count order cells row roots))
 
 abbrev μ-loop : tie.MeasureT-loop
 μ-loop cells count roots m order n row total₀ j₀ total j = m - j
@@ -22,8 +22,8 @@ abbrev μ-loop : tie.MeasureT-loop
 loop-holds : tie.Need-loop-holds Inv-loop μ-loop
 loop-holds c = (search needs, refl)
 
-number-at-requires : tie.Need-number-at-requires Inv-loop μ-loop
-number-at-requires c κs = search needs
+lent-number-requires : tie.Need-lent-number-requires Inv-loop μ-loop
+lent-number-requires c κs = search needs
 
 follow-requires : tie.Need-follow-requires Inv-loop μ-loop
 follow-requires c κs =
@@ -32,7 +32,7 @@ follow-requires c κs =
     let q = b .pre .1 in (
       b .pre .0,
       root-own (lentCells (a .count) (now (a .cells))) (a .m) (now (a .roots)) (q .fit) (q .own) (c .before .before .loop .j)
-          (c .before .loop-test .taken) (c .number-at .result) (c .number-at .ensures .0),
+          (c .before .loop-test .taken) (c .lent-number .result) (c .lent-number .ensures .0),
     )
 
 shl-total : tie.Need-shl-total Inv-loop μ-loop
@@ -56,7 +56,7 @@ loop-again c =
     let a = c .before .before .before .before .before .before .before .args in
     let l = c .before .before .before .before .loop in
     let f = outputAt (a .n) (a .count) (a .order) (now (a .cells)) (a .row) (now (a .roots)) in
-    let x = c .before .before .number-at in
+    let x = c .before .before .lent-number in
     let g = c .before .follow in
     let e = output-found (a .n) (a .count) (a .order) (now (a .cells)) (a .row) (now (a .roots)) (l .j) (x .result) (x .ensures .0)
     (g .result) (g .ensures) in (
@@ -71,7 +71,7 @@ returns c =
     let a = c .before .before .before .before .args in
     let l = c .before .loop in
     let e : l .j ≡ a .m = search needs in
-    l .inv .1 ∙ ap (λ (k : ℕ). outputsOf k (outputAt (a .n) (a .count) (a .order) (now (a .cells)) (a .row) (now (a .roots)))) e
+    l .inv .1 ∙ ap (λ (k : ℕ). packed k (outputAt (a .n) (a .count) (a .order) (now (a .cells)) (a .row) (now (a .roots)))) e
 
 pub outputs-spec : {M : Type 1} → statement M
 outputs-spec =
@@ -80,7 +80,7 @@ outputs-spec =
     Inv-loop
     μ-loop
     loop-holds
-    number-at-requires
+    lent-number-requires
     follow-requires
     shl-total
     add-total

@@ -11,37 +11,37 @@ use Rattle.network.proofs.levels.read_entry.Reads as reads
 use Rattle.network.proofs.levels.read_entry.Lts as lts
 use Rattle.network.proofs.levels.put_node.Reads as put-node-reads
 use Rattle.network.proofs.links.link_ref.Reads as link-ref-reads
-use Rattle.network.proofs.links.put_word.Reads as put-word-reads
+use Rattle.network.proofs.links.put_stored.Reads as put-stored-reads
 use Rattle.network.proofs.links.turned.Reads as turned-reads
-use Rattle.network.proofs.links.word_at.Reads as word-at-reads
+use Rattle.network.proofs.links.stored_at.Reads as stored-at-reads
 
 -- where the links differ, the next index is one more
 one-more : (c : tie.Else1)
     → let a = c .before .before .before .before .before .before .before .before .before .args in entryMade (a .p) (a .below) (a .i) (made (now (a .work)) (now (a .cells)) (a .next)) .next ≡ a .next + 1
 one-more c =
     let a = c .before .before .before .before .before .before .before .before .before .args in
-    entry-next (now (a .work)) (now (a .cells)) (a .p) (a .below) (a .i) (a .next) (c .before .before .before .before .before .word-at .result) (c .before .before .before .word-at2 .result)
-    (c .before .before .before .before .before .word-at .ensures .0) (c .before .before .before .word-at2 .ensures .0) (c .if1 .left)
+    entry-next (now (a .work)) (now (a .cells)) (a .p) (a .below) (a .i) (a .next) (c .before .before .before .before .before .stored-at .result) (c .before .before .before .stored-at2 .result)
+    (c .before .before .before .before .before .stored-at .ensures .0) (c .before .before .before .stored-at2 .ensures .0) (c .if1 .left)
 
 -- src/levels.rt:31:9
-word-at-requires : tie.Need-word-at-requires
-word-at-requires c κs = search needs
+stored-at-requires : tie.Need-stored-at-requires
+stored-at-requires c κs = search needs
 
 -- src/levels.rt:32:27
-add-word-at : tie.Need-add-word-at
-add-word-at c = search needs
+add-stored-at : tie.Need-add-stored-at
+add-stored-at c = search needs
 
 -- src/levels.rt:32:9
-word-at-requires-2 : tie.Need-word-at-requires-2
-word-at-requires-2 c κs = search needs
+stored-at-requires-2 : tie.Need-stored-at-requires-2
+stored-at-requires-2 c κs = search needs
 
 -- src/levels.rt:33:9
 link-ref-requires : tie.Need-link-ref-requires
 link-ref-requires c κs = search needs
 
 -- src/levels.rt:35:9
-put-word-requires : tie.Need-put-word-requires
-put-word-requires c κs = search needs
+put-stored-requires : tie.Need-put-stored-requires
+put-stored-requires c κs = search needs
 
 -- src/levels.rt:36:9
 same-length : tie.Need-same-length
@@ -52,9 +52,9 @@ returns : tie.Need-returns
 returns c =
     let d = c .before .before .before .before in
     let a = d .before .before .before .before .before .before .before .before .before .args in
-    entry-alike (now (a .work)) (now (a .cells)) (a .p) (a .below) (a .i) (a .next) (d .before .before .before .before .before .word-at .result) (d .before .before .before .word-at2 .result)
-    (d .before .before .before .before .before .word-at .ensures .0) (d .before .before .before .word-at2 .ensures .0) (d .before .link-ref .result) (c .before .before .put-word .last .0) (d .if1 .taken)
-    (d .before .link-ref .ensures .0) (c .before .before .put-word .ensures)
+    entry-alike (now (a .work)) (now (a .cells)) (a .p) (a .below) (a .i) (a .next) (d .before .before .before .before .before .stored-at .result) (d .before .before .before .stored-at2 .result)
+    (d .before .before .before .before .before .stored-at .ensures .0) (d .before .before .before .stored-at2 .ensures .0) (d .before .link-ref .result) (c .before .before .put-stored .last .0) (d .if1 .taken)
+    (d .before .link-ref .ensures .0) (c .before .before .put-stored .ensures)
 
 -- src/levels.rt:38:9
 link-ref-requires-2 : tie.Need-link-ref-requires-2
@@ -73,20 +73,20 @@ put-node-requires : tie.Need-put-node-requires
 put-node-requires c κs = omega (arith, one-more (c .before .before .before .before .before))
 
 -- src/levels.rt:43:28
-add-put-word : tie.Need-add-put-word
-add-put-word c = omega (arith, one-more (c .before .before .before .before .before .before .before .before .before))
+add-put-stored : tie.Need-add-put-stored
+add-put-stored c = omega (arith, one-more (c .before .before .before .before .before .before .before .before .before))
 
 -- src/levels.rt:43:23
-mul-put-word : tie.Need-mul-put-word
-mul-put-word c = omega (arith, one-more (c .before .before .before .before .before .before .before .before .before))
+mul-put-stored : tie.Need-mul-put-stored
+mul-put-stored c = omega (arith, one-more (c .before .before .before .before .before .before .before .before .before))
 
 -- src/levels.rt:43:23
-add-put-word-2 : tie.Need-add-put-word-2
-add-put-word-2 c = omega (arith, one-more (c .before .before .before .before .before .before .before .before .before))
+add-put-stored-2 : tie.Need-add-put-stored-2
+add-put-stored-2 c = omega (arith, one-more (c .before .before .before .before .before .before .before .before .before))
 
 -- src/levels.rt:43:5
-put-word-requires-2 : tie.Need-put-word-requires-2
-put-word-requires-2 c κs = omega (arith, one-more (c .before .before .before .before .before .before .before .before .before))
+put-stored-requires-2 : tie.Need-put-stored-requires-2
+put-stored-requires-2 c κs = omega (arith, one-more (c .before .before .before .before .before .before .before .before .before))
 
 -- src/levels.rt:44:5
 add-result : tie.Need-add-result
@@ -106,31 +106,31 @@ returns-2 c =
     let n = c .before .before .before .before .before .before in
     let d = c .before .before .before .before .before .before .before .before .before .before .before .before in
     let a = d .before .before .before .before .before .before .before .before .before .args in
-    entry-unlike (now (a .work)) (now (a .cells)) (a .p) (a .below) (a .i) (a .next) (d .before .before .before .before .before .word-at .result) (d .before .before .before .word-at2 .result)
-    (d .before .before .before .before .before .word-at .ensures .0) (d .before .before .before .word-at2 .ensures .0) (d .before .link-ref .result) (n .before .before .before .before .link-ref2 .result) (n .before .before .before .turned .result)
-    (n .before .before .turned2 .result) (c .before .before .put-word2 .last .0) (n .put-node .last .0) (d .if1 .left)
+    entry-unlike (now (a .work)) (now (a .cells)) (a .p) (a .below) (a .i) (a .next) (d .before .before .before .before .before .stored-at .result) (d .before .before .before .stored-at2 .result)
+    (d .before .before .before .before .before .stored-at .ensures .0) (d .before .before .before .stored-at2 .ensures .0) (d .before .link-ref .result) (n .before .before .before .before .link-ref2 .result) (n .before .before .before .turned .result)
+    (n .before .before .turned2 .result) (c .before .before .put-stored2 .last .0) (n .put-node .last .0) (d .if1 .left)
     (d .before .link-ref .ensures .0) (n .before .before .before .before .link-ref2 .ensures .0) (n .before .before .before .turned .ensures .0) (n .before .before .turned2 .ensures .0)
-    (n .put-node .ensures) (c .before .before .put-word2 .ensures)
+    (n .put-node .ensures) (c .before .before .put-stored2 .ensures)
 
 pub read-entry-spec : {M : Type 1} → statement M
 read-entry-spec =
     tie.close
     (tie.spec
-    word-at-requires
-    add-word-at
-    word-at-requires-2
+    stored-at-requires
+    add-stored-at
+    stored-at-requires-2
     link-ref-requires
-    put-word-requires
+    put-stored-requires
     same-length
     returns
     link-ref-requires-2
     turned-requires
     turned-requires-2
     put-node-requires
-    add-put-word
-    mul-put-word
-    add-put-word-2
-    put-word-requires-2
+    add-put-stored
+    mul-put-stored
+    add-put-stored-2
+    put-stored-requires-2
     add-result
     same-length-2
     same-length-3

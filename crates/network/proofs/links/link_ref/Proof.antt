@@ -10,7 +10,7 @@ use Rattle.network.proofs.links.link_ref.Tie as tie
 use Rattle.network.proofs.links.link_ref.Reads as reads
 use Rattle.network.proofs.links.link_ref.Lts as lts
 use Rattle.network.proofs.links.turned.Reads as turned-reads
-use Rattle.network.proofs.links.word_at.Reads as word-at-reads
+use Rattle.network.proofs.links.stored_at.Reads as stored-at-reads
 
 -- src/links.rt:49:9
 returns : tie.Need-returns
@@ -19,20 +19,20 @@ returns c =
     (sym (ref-constant (now (a .work)) (a .below) (a .k) (search needs)), search needs)
 
 -- src/links.rt:51:40
-sub-word-at : tie.Need-sub-word-at
-sub-word-at c = search needs
+sub-stored-at : tie.Need-sub-stored-at
+sub-stored-at c = search needs
 
 -- src/links.rt:51:35
-mul-word-at : tie.Need-mul-word-at
-mul-word-at c = search needs
+mul-stored-at : tie.Need-mul-stored-at
+mul-stored-at c = search needs
 
 -- src/links.rt:51:27
-add-word-at : tie.Need-add-word-at
-add-word-at c = search needs
+add-stored-at : tie.Need-add-stored-at
+add-stored-at c = search needs
 
 -- src/links.rt:51:9
-word-at-requires : tie.Need-word-at-requires
-word-at-requires c κs = search needs
+stored-at-requires : tie.Need-stored-at-requires
+stored-at-requires c κs = search needs
 
 -- src/links.rt:52:5
 turned-requires : tie.Need-turned-requires
@@ -42,16 +42,16 @@ turned-requires c κs = search needs
 returns-2 : tie.Need-returns-2
 returns-2 c =
     let a = c .before .before .before .before .args in
-    (c .turned .ensures .0 ∙ ap (opposite (inverts true (a .k))) (c .before .word-at .ensures .0) ∙ sym (ref-entry (now (a .work)) (a .below) (a .k) (search needs)), c .turned .ensures .1)
+    (c .turned .ensures .0 ∙ ap (opposite (inverts true (a .k))) (c .before .stored-at .ensures .0) ∙ sym (ref-entry (now (a .work)) (a .below) (a .k) (search needs)), c .turned .ensures .1)
 
 pub link-ref-spec : {M : Type 1} → statement M
 link-ref-spec =
     tie.close
     (tie.spec
     returns
-    sub-word-at
-    mul-word-at
-    add-word-at
-    word-at-requires
+    sub-stored-at
+    mul-stored-at
+    add-stored-at
+    stored-at-requires
     turned-requires
     returns-2)

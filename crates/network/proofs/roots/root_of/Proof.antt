@@ -8,7 +8,7 @@ use Rattle.network.proofs.roots.root_of.Tie as tie
 use Rattle.network.proofs.roots.root_of.Reads as reads
 use Rattle.network.proofs.roots.root_of.Lts as lts
 use Rattle.network.proofs.links.link_ref.Reads as link-ref-reads
-use Rattle.network.proofs.links.word_at.Reads as word-at-reads
+use Rattle.network.proofs.links.stored_at.Reads as stored-at-reads
 
 -- src/roots.rt:16:9
 returns : tie.Need-returns
@@ -17,16 +17,16 @@ returns c =
     (sym (root-past (now (a .work)) (a .m) (a .below) (a .j) (c .if1 .taken)), search needs)
 
 -- src/roots.rt:18:34
-mul-word-at : tie.Need-mul-word-at
-mul-word-at c = search needs
+mul-stored-at : tie.Need-mul-stored-at
+mul-stored-at c = search needs
 
 -- src/roots.rt:18:27
-add-word-at : tie.Need-add-word-at
-add-word-at c = search needs
+add-stored-at : tie.Need-add-stored-at
+add-stored-at c = search needs
 
 -- src/roots.rt:18:9
-word-at-requires : tie.Need-word-at-requires
-word-at-requires c κs = search needs
+stored-at-requires : tie.Need-stored-at-requires
+stored-at-requires c κs = search needs
 
 -- src/roots.rt:19:5
 link-ref-requires : tie.Need-link-ref-requires
@@ -36,7 +36,7 @@ link-ref-requires c κs = search needs
 returns-2 : tie.Need-returns-2
 returns-2 c =
     let a = c .before .before .before .before .args in (
-      c .link-ref .ensures .0 ∙ ap (refAt (now (a .work)) (a .below)) (c .before .word-at .ensures .0)
+      c .link-ref .ensures .0 ∙ ap (refAt (now (a .work)) (a .below)) (c .before .stored-at .ensures .0)
           ∙ sym (root-link (now (a .work)) (a .m) (a .below) (a .j) (c .before .before .if1 .left)),
       c .link-ref .ensures .1,
     )
@@ -44,4 +44,4 @@ returns-2 c =
 pub root-of-spec : {M : Type 1} → statement M
 root-of-spec =
     tie.close
-    (tie.spec returns mul-word-at add-word-at word-at-requires link-ref-requires returns-2)
+    (tie.spec returns mul-stored-at add-stored-at stored-at-requires link-ref-requires returns-2)

@@ -15,7 +15,7 @@ use Rattle.sift.proofs.choice.fullest.Tie as tie
 use Rattle.sift.proofs.choice.fullest.Reads as reads
 use Rattle.sift.proofs.choice.fullest.Lts as lts
 use Rattle.sift.proofs.choice.overtake.Reads as overtake-reads
-use Rattle.table.proofs.order.place_of.Reads as place-of-reads
+use Rattle.table.proofs.order.level_of.Reads as level-of-reads
 
 abbrev Inv-loop : tie.InvT-loop
 Inv-loop order n counts done lead₀ v₀ lead v =
@@ -32,20 +32,20 @@ loop-holds c =
 sub-v : tie.Need-sub-v Inv-loop μ-loop
 sub-v c = search needs
 
-place-of-requires : tie.Need-place-of-requires Inv-loop μ-loop
-place-of-requires c κs = search needs
+level-of-requires : tie.Need-level-of-requires Inv-loop μ-loop
+level-of-requires c κs = search needs
 
 mul-nodes : tie.Need-mul-nodes Inv-loop μ-loop
 mul-nodes c =
     let s = c .before .before .before in
     let i = index-below (s .args .n) (take (s .args .n) (s .args .order)) (s .pre .1) (c .before .before .loop .v - 1) (omega arith) in
-    omega (arith, c .place-of .ensures)
+    omega (arith, c .level-of .ensures)
 
 array-read-nodes : tie.Need-array-read-nodes Inv-loop μ-loop
 array-read-nodes c =
     let s = c .before .before .before in
     let i = index-below (s .args .n) (take (s .args .n) (s .args .order)) (s .pre .1) (c .before .before .loop .v - 1) (omega arith) in
-    omega (arith, c .place-of .ensures)
+    omega (arith, c .level-of .ensures)
 
 array-read-sifted : tie.Need-array-read-sifted Inv-loop μ-loop
 array-read-sifted c = omega arith
@@ -67,7 +67,7 @@ loop-again c =
       omega arith,
       lead-more f g (a .n) u (omega arith) (l .lead) (c .overtake .result)
           (l .inv .1 ∙ ap (λ (k : ℕ). leading f (keep (λ w. not (g w)) (drop k (upTo (a .n))))) back)
-          (c .overtake .ensures ∙ ap (λ (k : ℕ). overtaken (l .lead) u (getD (a .t1) k 0) (g u)) (c .before .place-of .ensures)),
+          (c .overtake .ensures ∙ ap (λ (k : ℕ). overtaken (l .lead) u (getD (a .t1) k 0) (g u)) (c .before .level-of .ensures)),
     )
 
 returns : tie.Need-returns Inv-loop μ-loop
@@ -87,7 +87,7 @@ fullest-spec =
     μ-loop
     loop-holds
     sub-v
-    place-of-requires
+    level-of-requires
     mul-nodes
     array-read-nodes
     array-read-sifted

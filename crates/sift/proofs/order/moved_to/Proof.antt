@@ -13,7 +13,7 @@ use Rattle.sift.proofs.order.moved_to.Tie as tie
 use Rattle.sift.proofs.order.moved_to.Reads as reads
 use Rattle.sift.proofs.order.moved_to.Lts as lts
 use Rattle.sift.proofs.order.moved_entry.Reads as moved-entry-reads
-use Rattle.table.proofs.order.place_of.Reads as place-of-reads
+use Rattle.table.proofs.order.level_of.Reads as level-of-reads
 
 abbrev Inv-loop : tie.InvT-loop
 Inv-loop order n v p q after₀ i₀ after i = (i ≤ n) × (after ≡ take i (moved v p (take n order)) ++ drop i order)
@@ -21,8 +21,8 @@ Inv-loop order n v p q after₀ i₀ after i = (i ≤ n) × (after ≡ take i (m
 abbrev μ-loop : tie.MeasureT-loop
 μ-loop order n v p q after₀ i₀ after i = n - i
 
-place-of-requires : tie.Need-place-of-requires Inv-loop μ-loop
-place-of-requires c κs = search needs
+level-of-requires : tie.Need-level-of-requires Inv-loop μ-loop
+level-of-requires c κs = search needs
 
 loop-holds : tie.Need-loop-holds Inv-loop μ-loop
 loop-holds c = search needs
@@ -49,7 +49,7 @@ loop-again c =
     let l = c .before .before .loop in (
       search needs,
       moved-more (a .n) (a .order) (s .pre .1 .0) (a .v) (a .p) (search needs) (search needs) (l .i) (search needs) (search needs)
-          (l .after) (c .moved-entry .result) (c .before .before .before .place-of .result) (l .inv .1) (c .before .before .before .place-of .ensures)
+          (l .after) (c .moved-entry .result) (c .before .before .before .level-of .result) (l .inv .1) (c .before .before .before .level-of .ensures)
           (c .moved-entry .ensures),
     )
 
@@ -66,7 +66,7 @@ moved-to-spec =
     (tie.spec
     Inv-loop
     μ-loop
-    place-of-requires
+    level-of-requires
     loop-holds
     moved-entry-requires
     mul-after

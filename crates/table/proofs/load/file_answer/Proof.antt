@@ -11,7 +11,7 @@ use lib.Dec.{eqb, leb}
 use lib.ListN.{length}
 use Rattle.diagram.specs.Bound.{mostVariables, mostOutputs}
 use Rattle.diagram.specs.Order.{isOrder}
-use Rattle.table.specs.File.{goodCheck, goodKind, inputsOf, outputsOf, fileOrder, goodRest, streamsAnswer, fileAnswer}
+use Rattle.table.specs.File.{goodCheck, goodKind, fileInputs, fileOutputs, fileOrder, goodRest, streamsAnswer, fileAnswer}
 use Rattle.table.proofs.Heading.{is-empty, is-broken, is-whole, many-inputs, few-inputs, no-outputs, many-outputs, some-outputs}
 use Rattle.table.proofs.Heading.{order-read, rest-read}
 use Rattle.table.proofs.load.file_answer.Statement.{statement}
@@ -32,14 +32,14 @@ checked c = sym (c .before .good-check .ensures) ∙ not-false _ (c .if3 .left)
 kinded : (c : tie.Else4) → goodKind 0 (fileAt (c .before .before .before .before)) 0 ≡ true
 kinded c = sym (c .before .good-kind .ensures) ∙ not-false _ (c .if4 .left)
 
-inputs : (c : tie.Else5) → leb (inputsOf (fileAt (c .before .before .before .before .before .before))) mostVariables ≡ true
+inputs : (c : tie.Else5) → leb (fileInputs (fileAt (c .before .before .before .before .before .before))) mostVariables ≡ true
 inputs c =
     let n = c .before .block-byte in
     few-inputs (fileAt (c .before .before .before .before .before .before)) (n .result) (n .ensures .0) (c .if5 .left)
 
 outputs : (c : tie.Else7)
     → let f = fileAt (c .before .before .before .before .before .before .before .before .before) in
-    leb 1 (outputsOf f) && leb (outputsOf f) mostOutputs ≡ true
+    leb 1 (fileOutputs f) && leb (fileOutputs f) mostOutputs ≡ true
 outputs c =
     let m = c .before .before .block-byte2 in
     some-outputs (fileAt (c .before .before .before .before .before .before .before .before .before)) (m .result) (m .ensures .0)
@@ -47,7 +47,7 @@ outputs c =
 
 order : (c : tie.After-is-order)
     → let f = fileAt (c .before .before .before .before .before .before .before .before .before .before .before) in
-    c .is-order .result ≡ isOrder (inputsOf f) (fileOrder f)
+    c .is-order .result ≡ isOrder (fileInputs f) (fileOrder f)
 order c =
     let i = c .before .before .before .before .before in
     let n = i .before .block-byte in

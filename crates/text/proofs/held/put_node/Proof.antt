@@ -5,35 +5,35 @@ use Rattle.text.proofs.Lines.{written-node}
 use Rattle.text.proofs.held.put_node.Statement.{statement}
 use Rattle.text.proofs.held.put_node.Tie as tie
 
-mul-number-at : tie.Need-mul-number-at
-mul-number-at c = search needs
+mul-lent-number : tie.Need-mul-lent-number
+mul-lent-number c = search needs
 
-number-at-requires : tie.Need-number-at-requires
-number-at-requires c κs = search needs
+lent-number-requires : tie.Need-lent-number-requires
+lent-number-requires c κs = search needs
 
 put-number-requires : tie.Need-put-number-requires
 put-number-requires c κs = search needs
 
-mul-number-at-2 : tie.Need-mul-number-at-2
-mul-number-at-2 c = search needs
+mul-lent-number-2 : tie.Need-mul-lent-number-2
+mul-lent-number-2 c = search needs
 
-add-number-at : tie.Need-add-number-at
-add-number-at c = search needs
+add-lent-number : tie.Need-add-lent-number
+add-lent-number c = search needs
 
-number-at-requires-2 : tie.Need-number-at-requires-2
-number-at-requires-2 c κs = search needs
+lent-number-requires-2 : tie.Need-lent-number-requires-2
+lent-number-requires-2 c κs = search needs
 
 put-number-requires-2 : tie.Need-put-number-requires-2
 put-number-requires-2 c κs = search needs
 
-mul-number-at-3 : tie.Need-mul-number-at-3
-mul-number-at-3 c = search needs
+mul-lent-number-3 : tie.Need-mul-lent-number-3
+mul-lent-number-3 c = search needs
 
-add-number-at-2 : tie.Need-add-number-at-2
-add-number-at-2 c = search needs
+add-lent-number-2 : tie.Need-add-lent-number-2
+add-lent-number-2 c = search needs
 
-number-at-requires-3 : tie.Need-number-at-requires-3
-number-at-requires-3 c κs = search needs
+lent-number-requires-3 : tie.Need-lent-number-requires-3
+lent-number-requires-3 c κs = search needs
 
 put-number-requires-3 : tie.Need-put-number-requires-3
 put-number-requires-3 c κs = search needs
@@ -51,16 +51,16 @@ pub put-node-spec : {M : Type 1} → statement M
 put-node-spec =
     tie.close
     (tie.spec
-    mul-number-at
-    number-at-requires
+    mul-lent-number
+    lent-number-requires
     put-number-requires
-    mul-number-at-2
-    add-number-at
-    number-at-requires-2
+    mul-lent-number-2
+    add-lent-number
+    lent-number-requires-2
     put-number-requires-2
-    mul-number-at-3
-    add-number-at-2
-    number-at-requires-3
+    mul-lent-number-3
+    add-lent-number-2
+    lent-number-requires-3
     put-number-requires-3
     put-byte-requires
     same-length

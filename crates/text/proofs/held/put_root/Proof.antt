@@ -14,8 +14,8 @@ put-word-requires c κs = search needs
 put-number-requires : tie.Need-put-number-requires
 put-number-requires c κs = search needs
 
-number-at-requires : tie.Need-number-at-requires
-number-at-requires c κs = search needs
+lent-number-requires : tie.Need-lent-number-requires
+lent-number-requires c κs = search needs
 
 put-number-requires-2 : tie.Need-put-number-requires-2
 put-number-requires-2 c κs = search needs
@@ -36,7 +36,7 @@ put-root-spec =
     slice-aggregate-put-word
     put-word-requires
     put-number-requires
-    number-at-requires
+    lent-number-requires
     put-number-requires-2
     put-byte-requires
     same-length

@@ -47,15 +47,15 @@ module _ (n : ℕ) (values care rows : List ℕ) where
       ∙ take-at (gatheredPart values care rows n j) (drop (width n + width n) cand) (w + w - 0) (omega (arith, length-gathered j))
 
   -- after j outputs there are k entries, and m is the work buffer
-  pub record Placed (work : List ℕ) (j k : ℕ) (m : List ℕ) : Type 0 where
+  pub record Linked (work : List ℕ) (j k : ℕ) (m : List ℕ) : Type 0 where
     pub entries : k ≡ length (levelParts (width n) [] (firstOutputs j) .parts)
     pub buffer : m ≡ written (levelParts (width n) [] (firstOutputs j)) 0 8192 work
 
-  pub placed-none : (work : List ℕ) → Placed work 0 0 work
+  pub placed-none : (work : List ℕ) → Linked work 0 0 work
   unfolding levelParts
   placed-none work = record { entries = refl; buffer = sym (written-none 0 8192 work) }
 
-  module _ (work : List ℕ) (j k : ℕ) (m : List ℕ) (small : n ≤ 10) (few : j < 16) (so-far : Placed work j k m) where
+  module _ (work : List ℕ) (j k : ℕ) (m : List ℕ) (small : n ≤ 10) (few : j < 16) (so-far : Linked work j k m) where
     pub output-room : (k + 1) * (width n + width n) ≤ 4096
     output-room =
         let g = level-grown (width n) [] (firstOutputs j) tt (outputs-long j) in
@@ -65,7 +65,7 @@ module _ (n : ℕ) (values care rows : List ℕ) where
     pub output-placed : (r : ℕ) (m′ : List ℕ) → 32768 ≤ length work
         → r ≡ length (levelParts (width n) (partsAt n k 0 m) (gatheredPart values care rows n j ∷ []) .parts)
         → m′ ≡ written (levelParts (width n) (partsAt n k 0 m) (gatheredPart values care rows n j ∷ [])) 0 (8192 + 2 * j) m
-        → Placed work (j + 1) r m′
+        → Linked work (j + 1) r m′
     output-placed r m′ h p q =
         let w = width n in
         let fs = firstOutputs j in

@@ -1,4 +1,4 @@
--- `fill::level::place_half` meets its contract: what lies at the front of cand is the half, and the region lent holds the entries' parts.
+-- `fill::level::link_half` meets its contract: what lies at the front of cand is the half, and the region lent holds the entries' parts.
 -- Assumes nothing.
 use borrow.Author.Needs.{needs}
 use mathlib.Core.Path.{_≡_, ap, _∙_}
@@ -12,8 +12,8 @@ use Rattle.fill.specs.Parts.{halfPart}
 use Rattle.fill.specs.Level.{partAt}
 use Rattle.fill.proofs.Halved.{length-half}
 use Rattle.fill.proofs.Levelled.{part-is, length-part, cand-is, half-is, placed-half, placed-asks}
-use Rattle.fill.proofs.level.place_half.Statement.{statement}
-use Rattle.fill.proofs.level.place_half.Tie as tie
+use Rattle.fill.proofs.level.link_half.Statement.{statement}
+use Rattle.fill.proofs.level.link_half.Tie as tie
 
 add-width-of : tie.Need-add-width-of
 add-width-of c = search needs
@@ -145,8 +145,8 @@ returns c =
       ),
     )
 
-pub place-half-spec : {M : Type 1} → statement M
-place-half-spec =
+pub link-half-spec : {M : Type 1} → statement M
+link-half-spec =
     tie.close
     (tie.spec
     add-width-of

@@ -1,4 +1,4 @@
--- `fill::outputs::place_output` meets its contract: what lies at the front of cand is the output, and the region lent holds the entries' parts.
+-- `fill::outputs::link_output` meets its contract: what lies at the front of cand is the output, and the region lent holds the entries' parts.
 -- Assumes nothing.
 use borrow.Author.Needs.{needs}
 use denote.Ref.{now}
@@ -10,9 +10,9 @@ use lib.ListN.{length, take}
 use Rattle.fill.specs.Gather.{gatheredPart}
 use Rattle.fill.proofs.Shifts.{width-room}
 use Rattle.fill.proofs.Levelled.{placed-half, placed-asks}
-use Rattle.fill.proofs.OutputsPlaced.{length-gathered, output-is}
-use Rattle.fill.proofs.outputs.place_output.Statement.{statement}
-use Rattle.fill.proofs.outputs.place_output.Tie as tie
+use Rattle.fill.proofs.OutputsLinked.{length-gathered, output-is}
+use Rattle.fill.proofs.outputs.link_output.Statement.{statement}
+use Rattle.fill.proofs.outputs.link_output.Tie as tie
 
 gather-output-requires : tie.Need-gather-output-requires
 gather-output-requires c κs = search needs
@@ -104,8 +104,8 @@ returns c =
     (c .before .before .put-link .last .1 .0) (w .width-of .ensures) refl (output w) (m .ensures) (c .before .before .put-link .ensures) in
     (r .0, (r .1, w .before .before .before .gather-output .ensures))
 
-pub place-output-spec : {M : Type 1} → statement M
-place-output-spec =
+pub link-output-spec : {M : Type 1} → statement M
+link-output-spec =
     tie.close
     (tie.spec
     gather-output-requires

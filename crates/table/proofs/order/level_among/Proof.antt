@@ -1,4 +1,4 @@
--- `table::order::place_among` meets its contract. The invariant: v is not among the first i entries. The measure is what is left of n.
+-- `table::order::level_among` meets its contract. The invariant: v is not among the first i entries. The measure is what is left of n.
 -- Assumes nothing.
 use borrow.Author.Needs.{needs}
 use Prim.Native.Nat.{_+_, _≤_, _-_}
@@ -7,11 +7,11 @@ use lib.Dec.{eqb}
 use lib.ListN.{take}
 use Rattle.diagram.specs.Lists.{index}
 use Rattle.table.proofs.Orders.{rest}
-use Rattle.table.proofs.Places.{place-here, place-later, place-none}
-use Rattle.table.proofs.order.place_among.Statement.{statement}
-use Rattle.table.proofs.order.place_among.Tie as tie
-use Rattle.table.proofs.order.place_among.Reads as reads
-use Rattle.table.proofs.order.place_among.Lts as lts
+use Rattle.table.proofs.VariableLevels.{place-here, place-later, place-none}
+use Rattle.table.proofs.order.level_among.Statement.{statement}
+use Rattle.table.proofs.order.level_among.Tie as tie
+use Rattle.table.proofs.order.level_among.Reads as reads
+use Rattle.table.proofs.order.level_among.Lts as lts
 
 abbrev Inv-loop : tie.InvT-loop
 Inv-loop n v order i₀ i = (i ≤ n) × (index eqb v (take n order) ≡ i + index eqb v (rest order n i))
@@ -52,8 +52,8 @@ returns-2 c =
     let l = c .before .loop in
     place-none (a .v) (a .t1) (a .n) (l .i) (search needs) (l .inv .1) (search needs)
 
-pub place-among-spec : {M : Type 1} → statement M
-place-among-spec =
+pub level-among-spec : {M : Type 1} → statement M
+level-among-spec =
     tie.close
     (tie.spec
     Inv-loop

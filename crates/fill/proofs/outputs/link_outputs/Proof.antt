@@ -1,4 +1,4 @@
--- `fill::outputs::place_outputs` meets its contract. The loop's invariant: the first j outputs are placed. Assumes nothing.
+-- `fill::outputs::link_outputs` meets its contract. The loop's invariant: the first j outputs are placed. Assumes nothing.
 use borrow.Author.Needs.{needs}
 use denote.Ref.{now}
 use mathlib.Core.Path.{_≡_, refl, subst}
@@ -6,13 +6,13 @@ use Prim.Native.Nat.{ℕ, _-_, _≤_, _<_, zero-le}
 use native.Mathlib.Nat.{le-antisymm}
 use native.Mathlib.Omega.{arith}
 use lib.ListN.{length}
-use Rattle.fill.proofs.OutputsPlaced.{Placed, placed-none, output-room, output-placed}
-use Rattle.fill.proofs.outputs.place_outputs.Statement.{statement}
-use Rattle.fill.proofs.outputs.place_outputs.Tie as tie
+use Rattle.fill.proofs.OutputsLinked.{Linked, placed-none, output-room, output-placed}
+use Rattle.fill.proofs.outputs.link_outputs.Statement.{statement}
+use Rattle.fill.proofs.outputs.link_outputs.Tie as tie
 
 abbrev Inv-loop : tie.InvT-loop
 Inv-loop n m values care rows work₀ cand₀ j₀ k₀ work cand j k =
-    (j ≤ m) × Placed n values care rows work₀ j k work × (length work ≡ length work₀) × (length cand ≡ length cand₀)
+    (j ≤ m) × Linked n values care rows work₀ j k work × (length work ≡ length work₀) × (length cand ≡ length cand₀)
 
 abbrev μ-loop : tie.MeasureT-loop
 μ-loop n m values care rows work₀ cand₀ j₀ k₀ work cand j k = m - j
@@ -22,8 +22,8 @@ loop-holds c =
     let a = c .before .before .before .before .before .args in
     (zero-le, placed-none (a .n) (now (a .values)) (now (a .care)) (now (a .rows)) (now (a .work)), refl, refl)
 
-place-output-requires : tie.Need-place-output-requires Inv-loop μ-loop
-place-output-requires c κs =
+link-output-requires : tie.Need-link-output-requires Inv-loop μ-loop
+link-output-requires c κs =
     let l = c .before .before .before .loop in
     let s = c .before .before .before .before .before .before .before .before .before in
     let a = s .args in
@@ -43,7 +43,7 @@ loop-again c =
     let l = c .before .before .before .before .before .before .before .before .loop in
     let s = c .before .before .before .before .before .before .before .before .before .before .before .before .before .before in
     let a = s .args in
-    let p = c .before .before .before .before .place-output in
+    let p = c .before .before .before .before .link-output in
     let few : l .j < 16 = omega (arith, s .pre .0 .1) in
     let t = output-placed (a .n) (now (a .values)) (now (a .care)) (now (a .rows)) (now (a .work))
     (l .j) (l .k) (l .work) (s .pre .0 .0) few (l .inv .1)
@@ -61,17 +61,17 @@ returns c =
     let l = c .before .loop in
     let a = c .before .before .before .before .before .before .before .args in
     let e = le-antisymm (l .inv .0) (c .loop-test .left) in
-    let t = subst (λ (j : ℕ). Placed (a .n) (now (a .values)) (now (a .care)) (now (a .rows)) (now (a .work)) j (l .k) (l .work)) e (l .inv .1) in
+    let t = subst (λ (j : ℕ). Linked (a .n) (now (a .values)) (now (a .care)) (now (a .rows)) (now (a .work)) j (l .k) (l .work)) e (l .inv .1) in
     (t .entries, t .buffer)
 
-pub place-outputs-spec : {M : Type 1} → statement M
-place-outputs-spec =
+pub link-outputs-spec : {M : Type 1} → statement M
+link-outputs-spec =
     tie.close
     (tie.spec
     Inv-loop
     μ-loop
     loop-holds
-    place-output-requires
+    link-output-requires
     add-j
     loop-less
     loop-again

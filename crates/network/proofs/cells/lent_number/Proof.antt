@@ -1,12 +1,12 @@
--- `network::cells::number_at` meets its contract: each number of 16 bits is below 65536, and past the end there is none.
+-- `network::cells::lent_number` meets its contract: each number of 16 bits is below 65536, and past the end there is none.
 -- Assumes nothing.
 use borrow.Author.Needs.{needs}
 use mathlib.Core.Path.{refl, sym}
 use native.Mathlib.Omega.{arith}
 use denote.Ref.{now}
 use lib.ListN.{List·getD-eq-default}
-use Rattle.network.proofs.cells.number_at.Statement.{statement}
-use Rattle.network.proofs.cells.number_at.Tie as tie
+use Rattle.network.proofs.cells.lent_number.Statement.{statement}
+use Rattle.network.proofs.cells.lent_number.Tie as tie
 
 mul-result : tie.Need-mul-result
 mul-result c = search needs
@@ -23,6 +23,6 @@ returns c = (refl, omega (arith, c .shared-slice-known .given (c .before .before
 returns-2 : tie.Need-returns-2
 returns-2 c = (sym (List·getD-eq-default (now (c .before .args .numbers)) 0 (c .if1 .left)), search needs)
 
-pub number-at-spec : {M : Type 1} → statement M
-number-at-spec =
+pub lent-number-spec : {M : Type 1} → statement M
+lent-number-spec =
     tie.close (tie.spec mul-result shared-slice-read-result cast-result returns returns-2)

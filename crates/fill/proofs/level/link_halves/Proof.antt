@@ -1,20 +1,20 @@
--- `fill::level::place_halves` meets its contract: the part lies outside of what the first half's placing writes. Assumes nothing.
+-- `fill::level::link_halves` meets its contract: the part lies outside of what the first half's placing writes. Assumes nothing.
 use borrow.Author.Needs.{needs}
 use Rattle.fill.proofs.Turned.{second-room, both-placed}
-use Rattle.fill.proofs.level.place_halves.Statement.{statement}
-use Rattle.fill.proofs.level.place_halves.Tie as tie
+use Rattle.fill.proofs.level.link_halves.Statement.{statement}
+use Rattle.fill.proofs.level.link_halves.Tie as tie
 
-place-half-requires : tie.Need-place-half-requires
-place-half-requires c κs = search needs
+link-half-requires : tie.Need-link-half-requires
+link-half-requires c κs = search needs
 
 add-second : tie.Need-add-second
 add-second c = search needs
 
-place-half-requires-2 : tie.Need-place-half-requires-2
-place-half-requires-2 c κs =
+link-half-requires-2 : tie.Need-link-half-requires-2
+link-half-requires-2 c κs =
     let s = c .before .before .before .before .before .before .before .before .before .before .before in
     let a = s .args in
-    let h = c .before .before .before .before .before .before .place-half in
+    let h = c .before .before .before .before .before .before .link-half in
     let i = second-room (a .d) (a .a) (a .to) (a .k) (a .l) (a .work .now) (a .cand .now) (s .pre .1 .0) (s .pre .1 .1 .0 .0) (s .pre .1 .1 .0 .1)
     (s .pre .1 .1 .1 .0) (s .pre .1 .1 .1 .1 .0) (h .result) (h .ensures .0) in
     (search needs, (search needs, (search needs, (i, (search needs, search needs)))))
@@ -29,20 +29,20 @@ returns : tie.Need-returns
 returns c =
     let s = c .before .before .before .before .before .before .before .before .before .before .before .before .before .before .before .before in
     let a = s .args in
-    let h = c .before .before .before .before .before .before .before .before .before .before .before .place-half in
-    let g = c .before .before .before .before .place-half2 in
+    let h = c .before .before .before .before .before .before .before .before .before .before .before .link-half in
+    let g = c .before .before .before .before .link-half2 in
     both-placed (a .d) (a .a) (a .to) (a .k) (a .l) (a .work .now) (a .cand .now) (s .pre .1 .0) (s .pre .1 .1 .0 .0) (s .pre .1 .1 .0 .1)
     (s .pre .1 .1 .1 .0) (s .pre .1 .1 .1 .1 .0) (h .result) (g .result)
     (h .last .1 .1 .1 .1 .1 .1 .0) (g .last .1 .1 .1 .1 .1 .1 .0) (h .last .1 .1 .1 .1 .1 .1 .1 .0) (g .last .1 .1 .1 .1 .1 .1 .1 .0)
     (h .ensures .0) (h .ensures .1 .0) (h .ensures .1 .1) (g .ensures .0) (g .ensures .1 .0) (g .ensures .1 .1)
 
-pub place-halves-spec : {M : Type 1} → statement M
-place-halves-spec =
+pub link-halves-spec : {M : Type 1} → statement M
+link-halves-spec =
     tie.close
     (tie.spec
-    place-half-requires
+    link-half-requires
     add-second
-    place-half-requires-2
+    link-half-requires-2
     same-length
     same-length-2
     returns)
