@@ -1,5 +1,2 @@
 pub mod Calls
-pub mod Entries
-pub mod Tried
-pub mod Choice
-pub mod Turns
+pub mod inner

@@ -7,12 +7,13 @@ ghost use mathlib.Core.Path.{_≡_};
 ghost use Prim.Native.Nat.{_≤_};
 ghost use lib.Dec.{T};
 ghost use lib.ListN.{take};
+ghost use Rattle.diagram.specs.Bound.{mostVariables};
 ghost use Rattle.diagram.specs.Order.{isOrder};
 ghost use Rattle.diagram.specs.Sift.{most};
 ghost use Rattle.table.specs.State.{goodHeading};
 ghost use Rattle.fill.specs.Work.{zeroWork};
 ghost use Rattle.fill.specs.Calls.{heldTable, enough};
-ghost use Rattle.sift.specs.Choice.{overtaken, nodesAt, left, nextOf};
+ghost use Rattle.sift.specs.inner.Choice.{overtaken, nodesAt, unmarked, nextOf};
 
 // A variable, and its nodes.
 pub(crate) struct Lead {
@@ -20,11 +21,11 @@ pub(crate) struct Lead {
     pub nodes: usize,
 }
 
-// A variable takes the lead where it is not sifted and has as many nodes or more.
-fn overtake(lead: Lead, v: usize, nodes: usize, sifted: bool) -> Lead
-    ensures { λ r. ⌜ r ≡ overtaken lead v nodes sifted ⌝ }
+// A variable takes the lead where it is not marked as sifted and has as many nodes or more.
+fn overtake(lead: Lead, v: usize, nodes: usize, marked: bool) -> Lead
+    ensures { λ r. ⌜ r ≡ overtaken lead v nodes marked ⌝ }
 {
-    if sifted {
+    if marked {
         return lead;
     }
     if nodes < lead.nodes {
@@ -38,12 +39,12 @@ fn overtake(lead: Lead, v: usize, nodes: usize, sifted: bool) -> Lead
 fn fullest(
     counts: [usize; VARIABLES],
     order: [usize; VARIABLES],
-    done: [bool; VARIABLES],
+    sifted: [bool; VARIABLES],
     n: usize,
 ) -> usize
-    requires { ⌜ n ≤ 10 ⌝ }
+    requires { ⌜ n ≤ mostVariables ⌝ }
     requires { ⌜ T (isOrder n (take n order)) ⌝ }
-    ensures { λ r. ⌜ r ≡ most (nodesAt counts (take n order)) (left n done) ⌝ }
+    ensures { λ r. ⌜ r ≡ most (nodesAt counts (take n order)) (unmarked n sifted) ⌝ }
 {
     let mut lead = Lead {
         variable: 0,
@@ -52,10 +53,10 @@ fn fullest(
     let mut v = n;
     while 0 < v {
         v -= 1;
-        let place = level_of(order, n, v);
-        let nodes = counts[place];
-        let sifted = done[v];
-        lead = overtake(lead, v, nodes, sifted);
+        let level = level_of(order, n, v);
+        let nodes = counts[level];
+        let marked = sifted[v];
+        lead = overtake(lead, v, nodes, marked);
     }
     lead.variable
 }
@@ -64,18 +65,18 @@ fn fullest(
 pub(crate) fn next_variable(
     state: State,
     order: [usize; VARIABLES],
-    done: [bool; VARIABLES],
+    sifted: [bool; VARIABLES],
     values: &[u8],
     care: &[u8],
     work: &mut [u8],
 ) -> usize
     requires { ⌜ T (enough (now values) (now care) (now work)) ⌝ }
     requires { ⌜ T (goodHeading (state .n) (state .m) (take (state .n) order)) ⌝ }
-    ensures variable { λ r. ⌜ r ≡ nextOf (heldTable state (now (values .entry)) (now (care .entry))) (take (state .n) order) done ⌝ }
+    ensures variable { λ r. ⌜ r ≡ nextOf (heldTable state (now (values .entry)) (now (care .entry))) (take (state .n) order) sifted ⌝ }
     ensures work { λ _. ⌜ now (work .exit) ≡ zeroWork (now (work .entry)) ⌝ }
 {
     let current = reorder(state, order);
     let levels = fill::counts(current, values, care, work);
     let counts = levels.counts;
-    fullest(counts, order, done, state.n)
+    fullest(counts, order, sifted, state.n)
 }

@@ -3,15 +3,16 @@ use diagram::VARIABLES;
 use table::order::level_of;
 ghost use mathlib.Core.Path.{_≡_};
 ghost use mathlib.Core.List.{_++_};
-ghost use Prim.Native.Nat.{_≤_, _<_};
+ghost use Prim.Native.Nat.{_+_, _≤_, _<_};
 ghost use lib.Dec.{T};
 ghost use lib.ListN.{take, drop};
+ghost use Rattle.diagram.specs.Bound.{mostVariables};
 ghost use Rattle.diagram.specs.Order.{isOrder, moved};
-ghost use Rattle.sift.specs.Entries.{otherEntry, movedEntry};
+ghost use Rattle.sift.specs.inner.Entries.{otherEntry, movedEntry};
 
 // The j-th of the others, where one stands at level q.
 fn other(order: [usize; VARIABLES], q: usize, j: usize) -> usize
-    requires { ⌜ j < 9 ⌝ }
+    requires { ⌜ j + 1 < mostVariables ⌝ }
     ensures { λ r. ⌜ r ≡ otherEntry order q j ⌝ }
 {
     if j < q {
@@ -22,7 +23,7 @@ fn other(order: [usize; VARIABLES], q: usize, j: usize) -> usize
 
 // What stands at level i once v has moved from level q to level p.
 fn moved_entry(order: [usize; VARIABLES], v: usize, q: usize, p: usize, i: usize) -> usize
-    requires { ⌜ (p < 10) × (i < 10) ⌝ }
+    requires { ⌜ (p < mostVariables) × (i < mostVariables) ⌝ }
     ensures { λ r. ⌜ r ≡ movedEntry order v q p i ⌝ }
 {
     if i < p {
@@ -41,7 +42,7 @@ pub(crate) fn moved_to(
     v: usize,
     p: usize,
 ) -> [usize; VARIABLES]
-    requires { ⌜ n ≤ 10 ⌝ }
+    requires { ⌜ n ≤ mostVariables ⌝ }
     requires { ⌜ T (isOrder n (take n order)) ⌝ }
     requires { ⌜ (v < n) × (p < n) ⌝ }
     ensures { λ r. ⌜ r ≡ moved v p (take n order) ++ drop n order ⌝ }

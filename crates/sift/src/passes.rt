@@ -2,7 +2,7 @@
 use crate::choice::next_variable;
 use crate::order::moved_to;
 use crate::room::has_room;
-use crate::trials::best_place;
+use crate::trials::best_level;
 use crate::trials::reorder;
 use diagram::VARIABLES;
 use table::Answer;
@@ -10,20 +10,22 @@ use table::Outcome;
 use table::State;
 use table::valid::holds_table;
 ghost use mathlib.Core.Path.{_≡_};
+ghost use mathlib.Core.Bool.{true};
 ghost use Prim.Native.Nat.{_<_, _^_};
 ghost use lib.Dec.{T};
 ghost use lib.ListN.{take};
+ghost use Rattle.table.specs.Answer.{done};
 ghost use Rattle.table.specs.State.{goodHeading, orderOf};
 ghost use Rattle.fill.specs.Work.{zeroWork};
 ghost use Rattle.fill.specs.Calls.{heldTable, enough};
 ghost use Rattle.sift.specs.Calls.{passOf, passOutcome, passWork, PassDemand};
-ghost use Rattle.sift.specs.Turns.{progressOf, turnOf};
+ghost use Rattle.sift.specs.inner.Turns.{progressOf, turnOf};
 
-// A pass under way: the order, a mark for each variable sifted, how many they are, and the orders tried.
+// A pass under way: the order, a mark for each variable sifted, the turns taken, and the orders tried.
 pub(crate) struct Progress {
     pub order: [usize; VARIABLES],
-    pub done: [bool; VARIABLES],
-    pub sifted: usize,
+    pub sifted: [bool; VARIABLES],
+    pub turns: usize,
     pub tried: usize,
 }
 
@@ -31,21 +33,21 @@ pub(crate) struct Progress {
 fn turn(state: State, progress: Progress, values: &[u8], care: &[u8], work: &mut [u8]) -> Progress
     requires { ⌜ T (enough (now values) (now care) (now work)) ⌝ }
     requires { ⌜ T (goodHeading (state .n) (state .m) (take (state .n) (progress .order))) ⌝ }
-    requires { ⌜ (progress .sifted < state .n) × (progress .tried < 2 ^ 32) ⌝ }
+    requires { ⌜ (progress .turns < state .n) × (progress .tried < 2 ^ 32) ⌝ }
     ensures progress { λ r. ⌜ r ≡ turnOf (heldTable state (now (values .entry)) (now (care .entry))) progress ⌝ }
     ensures work { λ _. ⌜ now (work .exit) ≡ zeroWork (now (work .entry)) ⌝ }
 {
     let order = progress.order;
-    let mut done = progress.done;
-    let v = next_variable(state, order, done, values, care, work);
+    let mut sifted = progress.sifted;
+    let v = next_variable(state, order, sifted, values, care, work);
     let current = reorder(state, order);
-    let best = best_place(current, v, values, care, work);
-    let after = moved_to(order, state.n, v, best.place);
-    done[v] = true;
+    let best = best_level(current, v, values, care, work);
+    let after = moved_to(order, state.n, v, best.level);
+    sifted[v] = true;
     Progress {
         order: after,
-        done,
-        sifted: progress.sifted + 1,
+        sifted,
+        turns: progress.turns + 1,
         tried: progress.tried + best.tried,
     }
 }
@@ -63,11 +65,11 @@ fn run(state: State, limit: usize, values: &[u8], care: &[u8], work: &mut [u8]) 
     let order = state.order;
     let mut progress = Progress {
         order,
-        done: [false; VARIABLES],
-        sifted: 0,
+        sifted: [false; VARIABLES],
+        turns: 0,
         tried: 0,
     };
-    while progress.sifted < n {
+    while progress.turns < n {
         if limit < progress.tried + n {
             return progress;
         }
@@ -80,7 +82,7 @@ fn run(state: State, limit: usize, values: &[u8], care: &[u8], work: &mut [u8]) 
 pub fn pass(state: State, limit: u32, values: &[u8], care: &[u8], work: &mut [u8]) -> Outcome
     ensures outcome { λ r. ⌜ r ≡ passOutcome state limit (now (values .entry)) (now (care .entry)) (now (work .entry)) ⌝ }
     ensures work { λ _. ⌜ now (work .exit) ≡ passWork state limit (now (values .entry)) (now (care .entry)) (now (work .entry)) ⌝ }
-    ensures demand { λ _. ⌜ PassDemand state limit (now (values .entry)) (now (care .entry)) ⌝ }
+    ensures demand { λ r. ⌜ (done (r .answer) ≡ true → PassDemand state limit (now (values .entry)) (now (care .entry)) r) ⌝ }
 {
     if !has_room(values.len(), care.len(), work.len()) {
         return Outcome {

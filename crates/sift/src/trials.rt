@@ -9,16 +9,16 @@ ghost use mathlib.Core.Path.{_≡_};
 ghost use Prim.Native.Nat.{_<_};
 ghost use lib.Dec.{T};
 ghost use lib.ListN.{take};
-ghost use Rattle.diagram.specs.Order.{moved};
+ghost use Rattle.diagram.specs.Bound.{mostVariables};
 ghost use Rattle.diagram.specs.Table.{cost};
 ghost use Rattle.table.specs.State.{goodHeading, orderOf, reorderedState};
 ghost use Rattle.fill.specs.Work.{zeroWork};
 ghost use Rattle.fill.specs.Calls.{heldTable, enough};
-ghost use Rattle.sift.specs.Tried.{bestOf};
+ghost use Rattle.sift.specs.inner.Trials.{costAt, bestWith, bestOf};
 
-// The best level for a variable, the nodes with the variable there, and how many orders were tried to find it.
+// The best level for a variable so far, the nodes with the variable there, and how many orders were tried to find it.
 pub(crate) struct Best {
-    pub place: usize,
+    pub level: usize,
     pub cost: usize,
     pub tried: usize,
 }
@@ -62,7 +62,7 @@ fn trial(state: State, v: usize, p: usize, values: &[u8], care: &[u8], work: &mu
     requires { ⌜ T (enough (now values) (now care) (now work)) ⌝ }
     requires { ⌜ T (goodHeading (state .n) (state .m) (orderOf state)) ⌝ }
     requires { ⌜ (v < state .n) × (p < state .n) ⌝ }
-    ensures cost { λ r. ⌜ r ≡ cost (heldTable state (now (values .entry)) (now (care .entry))) (moved v p (orderOf state)) ⌝ }
+    ensures cost { λ r. ⌜ r ≡ costAt (heldTable state (now (values .entry)) (now (care .entry))) v (orderOf state) p ⌝ }
     ensures work { λ _. ⌜ now (work .exit) ≡ zeroWork (now (work .entry)) ⌝ }
 {
     let order = state.order;
@@ -70,9 +70,47 @@ fn trial(state: State, v: usize, p: usize, values: &[u8], care: &[u8], work: &mu
     cost_of(state, after, values, care, work)
 }
 
-// Tries v at every level from the top down: the next one is the number of those tried. Of the levels with the fewest nodes it takes
-// the topmost.
-pub(crate) fn best_place(
+// Tries v at level p and counts the trial. The level is the best where none was tried before it, or where it has fewer nodes.
+fn try_level(
+    state: State,
+    v: usize,
+    p: usize,
+    best: Best,
+    values: &[u8],
+    care: &[u8],
+    work: &mut [u8],
+) -> Best
+    requires { ⌜ T (enough (now values) (now care) (now work)) ⌝ }
+    requires { ⌜ T (goodHeading (state .n) (state .m) (orderOf state)) ⌝ }
+    requires { ⌜ (v < state .n) × ((p < state .n) × (best .tried < mostVariables)) ⌝ }
+    ensures best { λ r. ⌜ r ≡ bestWith best p (costAt (heldTable state (now (values .entry)) (now (care .entry))) v (orderOf state) p) ⌝ }
+    ensures work { λ _. ⌜ now (work .exit) ≡ zeroWork (now (work .entry)) ⌝ }
+{
+    let nodes = trial(state, v, p, values, care, work);
+    let tried = best.tried + 1;
+    if best.tried == 0 {
+        return Best {
+            level: p,
+            cost: nodes,
+            tried,
+        };
+    }
+    if nodes < best.cost {
+        return Best {
+            level: p,
+            cost: nodes,
+            tried,
+        };
+    }
+    Best {
+        level: best.level,
+        cost: best.cost,
+        tried,
+    }
+}
+
+// Tries v at every level from the top down, and takes the topmost of those with the fewest nodes.
+pub(crate) fn best_level(
     state: State,
     v: usize,
     values: &[u8],
@@ -86,16 +124,15 @@ pub(crate) fn best_place(
     ensures work { λ _. ⌜ now (work .exit) ≡ zeroWork (now (work .entry)) ⌝ }
 {
     let n = state.n;
-    let mut place: usize = 0;
-    let mut cost = trial(state, v, 0, values, care, work);
-    let mut tried: usize = 1;
-    while tried < n {
-        let nodes = trial(state, v, tried, values, care, work);
-        if nodes < cost {
-            place = tried;
-            cost = nodes;
-        }
-        tried += 1;
+    let mut best = Best {
+        level: 0,
+        cost: 0,
+        tried: 0,
+    };
+    let mut p: usize = 0;
+    while p < n {
+        best = try_level(state, v, p, best, values, care, work);
+        p += 1;
     }
-    Best { place, cost, tried }
+    best
 }

@@ -8,8 +8,8 @@ use native.Mathlib.Omega.{arith}
 use lib.ListN.{getD, take, drop}
 use Rattle.diagram.specs.Lists.{keep, upTo}
 use Rattle.diagram.proofs.Order.{index-below}
-use Rattle.sift.specs.Choice.{nodesAt, overtaken}
-use Rattle.sift.proofs.Leading.{leading, lead-none, lead-more, lead-all}
+use Rattle.sift.specs.inner.Choice.{nodesAt, overtaken}
+use Rattle.sift.proofs.LeadingVariable.{leading, lead-none, lead-more, lead-all}
 use Rattle.sift.proofs.choice.fullest.Statement.{statement}
 use Rattle.sift.proofs.choice.fullest.Tie as tie
 use Rattle.sift.proofs.choice.fullest.Reads as reads
@@ -18,11 +18,11 @@ use Rattle.sift.proofs.choice.overtake.Reads as overtake-reads
 use Rattle.table.proofs.order.level_of.Reads as level-of-reads
 
 abbrev Inv-loop : tie.InvT-loop
-Inv-loop order n counts done lead₀ v₀ lead v =
-    (v ≤ n) × (lead ≡ leading (nodesAt counts (take n order)) (keep (λ w. not (getD done w false)) (drop v (upTo n))))
+Inv-loop order n counts sifted lead₀ v₀ lead v =
+    (v ≤ n) × (lead ≡ leading (nodesAt counts (take n order)) (keep (λ w. not (getD sifted w false)) (drop v (upTo n))))
 
 abbrev μ-loop : tie.MeasureT-loop
-μ-loop order n counts done lead₀ v₀ lead v = v
+μ-loop order n counts sifted lead₀ v₀ lead v = v
 
 loop-holds : tie.Need-loop-holds Inv-loop μ-loop
 loop-holds c =
@@ -47,8 +47,8 @@ array-read-nodes c =
     let i = index-below (s .args .n) (take (s .args .n) (s .args .order)) (s .pre .1) (c .before .before .loop .v - 1) (omega arith) in
     omega (arith, c .level-of .ensures)
 
-array-read-sifted : tie.Need-array-read-sifted Inv-loop μ-loop
-array-read-sifted c = omega arith
+array-read-marked : tie.Need-array-read-marked Inv-loop μ-loop
+array-read-marked c = omega arith
 
 overtake-requires : tie.Need-overtake-requires Inv-loop μ-loop
 overtake-requires c κs = search needs
@@ -90,7 +90,7 @@ fullest-spec =
     level-of-requires
     mul-nodes
     array-read-nodes
-    array-read-sifted
+    array-read-marked
     overtake-requires
     loop-less
     loop-again

@@ -7,8 +7,8 @@ use lib.ListN.{take}
 use Rattle.table.proofs.Held.{heading-inputs, heading-order}
 use Rattle.fill.specs.declared.Levels.{Levels}
 use Rattle.fill.specs.Calls.{heldTable}
-use Rattle.sift.proofs.Counted.{counted-work, counted-levels}
-use Rattle.sift.proofs.Chosen.{next-counted}
+use Rattle.sift.proofs.CountSucceeds.{counted-work, counted-levels}
+use Rattle.sift.proofs.NextVariable.{next-counted}
 use Rattle.sift.proofs.choice.next_variable.Statement.{statement}
 use Rattle.sift.proofs.choice.next_variable.Tie as tie
 use Rattle.sift.proofs.choice.next_variable.Reads as reads
@@ -46,7 +46,7 @@ returns c =
     let r = c .before .before .before .before .counts in
     let d = c .before .before .before .before .before .before .reorder in (
       c .fullest .ensures
-          ∙ next-counted (heldTable (a .state) vs cs) (take (a .state .n) (a .order)) (a .done)
+          ∙ next-counted (heldTable (a .state) vs cs) (take (a .state .n) (a .order)) (a .sifted)
           (heading-order (a .state .n) (a .state .m) (take (a .state .n) (a .order)) g)
           (heading-inputs (a .state .n) (a .state .m) (take (a .state .n) (a .order)) g) (r .result .counts)
           (ap (λ (x : Levels). x .counts) (r .ensures .0)

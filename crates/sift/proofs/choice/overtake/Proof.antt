@@ -1,7 +1,7 @@
 -- `sift::choice::overtake` meets its contract. A variable takes the lead, by the two tests.
 -- Assumes nothing.
 use mathlib.Core.Path.{sym}
-use Rattle.sift.proofs.Leading.{overtaken-sifted, overtaken-fewer, overtaken-more}
+use Rattle.sift.proofs.LeadingVariable.{overtaken-marked, overtaken-fewer, overtaken-more}
 use Rattle.sift.proofs.choice.overtake.Statement.{statement}
 use Rattle.sift.proofs.choice.overtake.Tie as tie
 use Rattle.sift.proofs.choice.overtake.Reads as reads
@@ -10,17 +10,17 @@ use Rattle.sift.proofs.choice.overtake.Lts as lts
 returns : tie.Need-returns
 returns c =
     let a = c .before .args in
-    sym (overtaken-sifted (a .lead) (a .v) (a .nodes) (a .sifted) (c .if1 .taken))
+    sym (overtaken-marked (a .lead) (a .v) (a .nodes) (a .marked) (c .if1 .taken))
 
 returns-2 : tie.Need-returns-2
 returns-2 c =
     let a = c .before .before .before .args in
-    sym (overtaken-fewer (a .lead) (a .v) (a .nodes) (a .sifted) (c .before .before .if1 .left) (c .if2 .taken))
+    sym (overtaken-fewer (a .lead) (a .v) (a .nodes) (a .marked) (c .before .before .if1 .left) (c .if2 .taken))
 
 returns-3 : tie.Need-returns-3
 returns-3 c =
     let a = c .before .before .before .args in
-    sym (overtaken-more (a .lead) (a .v) (a .nodes) (a .sifted) (c .before .before .if1 .left) (c .if2 .left))
+    sym (overtaken-more (a .lead) (a .v) (a .nodes) (a .marked) (c .before .before .if1 .left) (c .if2 .left))
 
 pub overtake-spec : {M : Type 1} → statement M
 overtake-spec = tie.close (tie.spec returns returns-2 returns-3)

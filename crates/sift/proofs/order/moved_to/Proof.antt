@@ -1,4 +1,5 @@
--- `sift::order::moved_to` meets its contract. The invariant: the first i entries are those of the moved order. The measure is what is left of n.
+-- `sift::order::moved_to` meets its contract. The invariant: the first i entries are those of the moved order.
+-- The measure is what is left of n.
 -- Assumes nothing.
 use borrow.Author.Needs.{needs}
 use Prim.Native.Nat.{_≤_, _-_}
@@ -7,7 +8,7 @@ use mathlib.Core.List.{_++_}
 use native.Mathlib.Omega.{arith}
 use lib.ListN.{take, drop}
 use Rattle.diagram.specs.Order.{moved}
-use Rattle.sift.proofs.Entries.{moved-more, moved-whole}
+use Rattle.sift.proofs.MovedEntries.{moved-more, moved-whole}
 use Rattle.sift.proofs.order.moved_to.Statement.{statement}
 use Rattle.sift.proofs.order.moved_to.Tie as tie
 use Rattle.sift.proofs.order.moved_to.Reads as reads
@@ -46,11 +47,11 @@ loop-again : tie.Need-loop-again Inv-loop μ-loop
 loop-again c =
     let s = c .before .before .before .before in
     let a = s .args in
-    let l = c .before .before .loop in (
+    let l = c .before .before .loop in
+    let q = c .before .before .before .level-of in (
       search needs,
       moved-more (a .n) (a .order) (s .pre .1 .0) (a .v) (a .p) (search needs) (search needs) (l .i) (search needs) (search needs)
-          (l .after) (c .moved-entry .result) (c .before .before .before .level-of .result) (l .inv .1) (c .before .before .before .level-of .ensures)
-          (c .moved-entry .ensures),
+          (l .after) (c .moved-entry .result) (q .result) (l .inv .1) (q .ensures) (c .moved-entry .ensures),
     )
 
 returns : tie.Need-returns Inv-loop μ-loop

@@ -6,7 +6,7 @@ use native.Mathlib.Omega.{arith}
 use borrow.Author.Tests.{not-true, not-false}
 use denote.Ref.{now}
 use Rattle.diagram.proofs.Bools.{to-T}
-use Rattle.sift.proofs.Passed.{pass-short, pass-no-table, pass-sifted}
+use Rattle.sift.proofs.PassOutcome.{pass-short, pass-no-table, pass-held}
 use Rattle.sift.proofs.passes.pass.Statement.{statement}
 use Rattle.sift.proofs.passes.pass.Tie as tie
 use Rattle.sift.proofs.passes.pass.Reads as reads
@@ -66,7 +66,7 @@ returns-3 c =
     let m = far .before .has-room in
     let h = c .before .before .before .before .before .before .before .holds-table in
     let r = c .before .before .before .before .run in
-    pass-sifted (a .state) (a .limit) vs cs (now (a .work)) (sym (m .ensures) ∙ not-false (m .result) (far .if1 .left))
+    pass-held (a .state) (a .limit) vs cs (now (a .work)) (sym (m .ensures) ∙ not-false (m .result) (far .if1 .left))
     (sym (h .ensures) ∙ not-false (h .result) (c .before .before .before .before .before .before .if2 .left)) (r .result) (r .ensures .0)
     (c .reorder .result) (c .reorder .ensures) (r .last .1 .1 .1 .1 .0) (r .ensures .1)
 

@@ -1,5 +1,5 @@
--- `sift::passes::run` meets its contract. The invariant: what is held is the pass after as many turns as variables are sifted.
--- The measure is the number of those that are not.
+-- `sift::passes::run` meets its contract. The invariant: what is held is the pass after as many turns.
+-- The measure is the number of turns left.
 -- Assumes nothing.
 use borrow.Author.Needs.{needs}
 use Rattle.table.specs.State.{orderOf}
@@ -9,8 +9,8 @@ use mathlib.Core.Path.{refl, ap, _∙_}
 use native.Mathlib.Omega.{arith}
 use denote.Ref.{now}
 use lib.ListN.{length}
-use Rattle.sift.proofs.Zeroed.{Zeroed, zero-length, cleared-zero, zeroed-first, zeroed-again, zeroed-last}
-use Rattle.sift.proofs.Running.{Running, running-start, running-heading, running-next, running-less, running-stop}
+use Rattle.sift.proofs.WorkZeroed.{Zeroed, zero-length, cleared-zero, zeroed-first, zeroed-again, zeroed-last}
+use Rattle.sift.proofs.PassUnderWay.{Running, running-start, running-heading, running-next, running-less, running-stop}
 use Rattle.sift.proofs.passes.run.Statement.{statement}
 use Rattle.sift.proofs.passes.run.Tie as tie
 use Rattle.sift.proofs.passes.run.Reads as reads
@@ -19,10 +19,11 @@ use Rattle.fill.proofs.clear.Reads as clear-reads
 use Rattle.sift.proofs.passes.turn.Reads as turn-reads
 
 abbrev Inv-loop : tie.InvT-loop
-Inv-loop state limit values care work₀ n progress₀ work progress = Running state limit values care progress × Zeroed values care work₀ work
+Inv-loop state limit values care work₀ n progress₀ work progress =
+    Running state limit values care progress × Zeroed values care work₀ 1 work
 
 abbrev μ-loop : tie.MeasureT-loop
-μ-loop state limit values care work₀ n progress₀ work progress = n - progress .sifted
+μ-loop state limit values care work₀ n progress₀ work progress = n - progress .turns
 
 clear-requires : tie.Need-clear-requires Inv-loop μ-loop
 clear-requires c κs = search needs
@@ -111,7 +112,8 @@ loop-again c =
     let some = c .before .before .before .before .before .before .if1 .taken in
     let room = c .before .before .before .before .if2 .left in (
       running-next (a .state) (a .limit) vs cs (s .pre .1 .0) (l .progress) (l .inv .0) some room (r .result) (r .ensures .0),
-      zeroed-again vs cs (far .before .before .before .before .clear .last .0) (l .work) (r .last .1 .1 .1 .1 .0) (l .inv .1) (r .ensures .1),
+      zeroed-again vs cs (far .before .before .before .before .clear .last .0) 1 1 (l .work) (r .last .1 .1 .1 .1 .0) (l .inv .1)
+          (r .ensures .1),
     )
 
 same-length-2 : tie.Need-same-length-2 Inv-loop μ-loop

@@ -5,15 +5,15 @@ use native.Mathlib.Omega.{arith}
 use denote.Ref.{now}
 use lib.ListN.{take}
 use Rattle.table.proofs.Held.{heading-inputs, heading-order}
-use Rattle.sift.proofs.Zeroed.{enough-again, zero-again}
-use Rattle.sift.proofs.Turned.{turn-below, current-heading, current-below, turn-place, turn-tried, turned}
+use Rattle.sift.proofs.WorkZeroed.{enough-again, zero-again}
+use Rattle.sift.proofs.OneTurn.{turn-below, current-heading, current-below, turn-level, turn-tried, turned}
 use Rattle.sift.proofs.passes.turn.Statement.{statement}
 use Rattle.sift.proofs.passes.turn.Tie as tie
 use Rattle.sift.proofs.passes.turn.Reads as reads
 use Rattle.sift.proofs.passes.turn.Lts as lts
 use Rattle.sift.proofs.choice.next_variable.Reads as next-variable-reads
 use Rattle.sift.proofs.order.moved_to.Reads as moved-to-reads
-use Rattle.sift.proofs.trials.best_place.Reads as best-place-reads
+use Rattle.sift.proofs.trials.best_level.Reads as best-level-reads
 use Rattle.sift.proofs.trials.reorder.Reads as reorder-reads
 
 next-variable-requires : tie.Need-next-variable-requires
@@ -22,8 +22,8 @@ next-variable-requires c κs = search needs
 reorder-requires : tie.Need-reorder-requires
 reorder-requires c κs = search needs
 
-best-place-requires : tie.Need-best-place-requires
-best-place-requires c κs =
+best-level-requires : tie.Need-best-level-requires
+best-level-requires c κs =
     let far = c .before .before .before .before .before .before .before .before in
     let s = far .before .before .before in
     let a = s .args in
@@ -49,20 +49,20 @@ moved-to-requires c κs =
     let cs = now (a .care) in
     let v = c .before .before .before .before .before .before .before .next-variable in
     let d = c .before .before .before .before .reorder in
-    let b = c .before .before .best-place in (
+    let b = c .before .before .best-level in (
       heading-inputs (a .state .n) (a .state .m) (take (a .state .n) (a .progress .order)) (s .pre .1 .0),
       (
         heading-order (a .state .n) (a .state .m) (take (a .state .n) (a .progress .order)) (s .pre .1 .0),
         (
           turn-below (a .state) (a .progress) vs cs (s .pre .1 .0) (omega (arith, s .pre .1 .1)) (v .result) (v .ensures .0),
-          turn-place (a .state) (a .progress) vs cs (s .pre .1 .0) (omega (arith, s .pre .1 .1)) (v .result) (v .ensures .0)
+          turn-level (a .state) (a .progress) vs cs (s .pre .1 .0) (omega (arith, s .pre .1 .1)) (v .result) (v .ensures .0)
               (d .result) (d .ensures) (b .result) (b .ensures .0),
         ),
       ),
     )
 
-array-write-done : tie.Need-array-write-done
-array-write-done c =
+array-write-sifted : tie.Need-array-write-sifted
+array-write-sifted c =
     let far = c .before .before .before .before .before .before .before .before in
     let s = far .before .before .before .before .before .before .before in
     let a = s .args in
@@ -91,7 +91,7 @@ add-t20 c =
     let cs = now (a .care) in
     let v = far .before .before .before .next-variable in
     let d = c .before .before .before .before .before .before .before .before .reorder in
-    let b = c .before .before .before .before .before .before .best-place in
+    let b = c .before .before .before .before .before .before .best-level in
     omega (
       arith,
       s .pre .1 .1,
@@ -112,7 +112,7 @@ returns c =
     let cs = now (a .care) in
     let v = far .before .before .before .next-variable in
     let d = c .before .before .before .before .before .before .before .before .reorder in
-    let b = c .before .before .before .before .before .before .best-place in
+    let b = c .before .before .before .before .before .before .best-level in
     let o = c .before .before .before .moved-to in (
       turned (a .state) (a .progress) vs cs (s .pre .1 .0) (omega (arith, s .pre .1 .1)) (v .result) (v .ensures .0)
           (d .result) (d .ensures) (b .result) (b .ensures .0) (o .result) (o .ensures),
@@ -125,9 +125,9 @@ turn-spec =
     (tie.spec
     next-variable-requires
     reorder-requires
-    best-place-requires
+    best-level-requires
     moved-to-requires
-    array-write-done
+    array-write-sifted
     add-t19
     add-t20
     same-length

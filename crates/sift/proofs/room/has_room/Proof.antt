@@ -10,15 +10,19 @@ use Rattle.sift.proofs.room.has_room.Lts as lts
 
 returns : tie.Need-returns
 unfolding planeSize workSize
-returns c = rw (lt-leb 2048 (c .before .args .values) (c .if1 .taken))
+returns c = rw (lt-leb planeSize (c .before .args .values) (c .if1 .taken))
 
 returns-2 : tie.Need-returns-2
 unfolding planeSize workSize
-returns-2 c = rw (le-leb 2048 (c .before .before .args .values) (c .before .if1 .left), lt-leb 2048 (c .before .before .args .care) (c .if2 .taken))
+returns-2 c =
+    let a = c .before .before .args in
+    rw (le-leb planeSize (a .values) (c .before .if1 .left), lt-leb planeSize (a .care) (c .if2 .taken))
 
 returns-3 : tie.Need-returns-3
 unfolding planeSize workSize
-returns-3 c = rw (le-leb 2048 (c .before .before .args .values) (c .before .if1 .left), le-leb 2048 (c .before .before .args .care) (c .if2 .left))
+returns-3 c =
+    let a = c .before .before .args in
+    rw (le-leb planeSize (a .values) (c .before .if1 .left), le-leb planeSize (a .care) (c .if2 .left))
 
 pub has-room-spec : {M : Type 1} → statement M
 has-room-spec = tie.close (tie.spec returns returns-2 returns-3)

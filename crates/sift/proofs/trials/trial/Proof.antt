@@ -9,7 +9,7 @@ use Rattle.diagram.specs.Table.{cost}
 use Rattle.table.specs.State.{orderOf}
 use Rattle.table.proofs.Held.{heading-inputs, heading-order}
 use Rattle.fill.specs.Calls.{heldTable}
-use Rattle.sift.proofs.Headings.{take-moved, heading-after}
+use Rattle.sift.proofs.ReorderedHeading.{take-moved, heading-after}
 use Rattle.sift.proofs.trials.trial.Statement.{statement}
 use Rattle.sift.proofs.trials.trial.Tie as tie
 use Rattle.sift.proofs.trials.trial.Reads as reads
@@ -46,7 +46,8 @@ returns c =
     let k = c .before .before .cost-of in (
       k .ensures .0
           ∙ ap (λ (xs : List ℕ). cost (heldTable (a .state) vs cs) xs)
-          (take-moved (a .state .n) (a .state .m) (a .state .order) (s .pre .1 .0) (a .v) (a .p) (s .pre .1 .1 .0) (r .result) (r .ensures)),
+          (take-moved (a .state .n) (a .state .m) (a .state .order) (s .pre .1 .0) (a .v) (a .p) (s .pre .1 .1 .0) (r .result)
+          (r .ensures)),
       k .ensures .1,
     )
 

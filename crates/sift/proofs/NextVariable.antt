@@ -1,4 +1,4 @@
--- The variable that comes next, by the nodes of ten levels and by marks: it is a variable, and where the marks are those of the
+-- The variable that comes next, by the nodes of each level and by marks: it is a variable, and where the marks are those of the
 -- variables sifted it is the one that diagram's `next` names.
 -- Assumes nothing.
 use mathlib.Core.Path.{_≡_, refl, ap, _∙_}
@@ -8,6 +8,7 @@ use Prim.Native.Nat.{ℕ, _≤_, _<_}
 use native.Mathlib.Omega.{arith}
 use lib.Dec.{T, eqb}
 use lib.ListN.{getD}
+use Rattle.diagram.specs.Bound.{mostVariables}
 use Rattle.diagram.specs.Lists.{has, index, upTo}
 use Rattle.diagram.specs.Network.{counts}
 use Rattle.diagram.specs.Order.{isOrder}
@@ -20,7 +21,7 @@ use Rattle.diagram.proofs.Order.{index-below}
 use Rattle.diagram.proofs.Most.{most-has}
 use Rattle.fill.specs.Calls.{tenOf}
 use Rattle.fill.proofs.Tens.{ten-at}
-use Rattle.sift.specs.Choice.{nodesAt, left, nextOf}
+use Rattle.sift.specs.inner.Choice.{nodesAt, unmarked, nextOf}
 
 -- two numberings that agree on a list have the same first with the most
 
@@ -41,15 +42,15 @@ most-below : (f : ℕ → ℕ) (n : ℕ) (vs : List ℕ) → ((w : ℕ) → T (h
 most-below f n [] b h = h
 most-below f n (v ∷ vs) b h = b (most f (v ∷ vs)) (most-has f (v ∷ vs) (omega arith))
 
-left-below : (n : ℕ) (done : List Bool) (w : ℕ) → T (has eqb w (left n done)) → w < n
-left-below n done w h = upTo-lt w n (keep-has eqb eqb-equality (λ v. not (getD done v false)) w (upTo n) h .0)
+unmarked-below : (n : ℕ) (sifted : List Bool) (w : ℕ) → T (has eqb w (unmarked n sifted)) → w < n
+unmarked-below n sifted w h = upTo-lt w n (keep-has eqb eqb-equality (λ v. not (getD sifted v false)) w (upTo n) h .0)
 
-pub next-below : (t : Table) (order : List ℕ) (done : List Bool) → 0 < t .n → nextOf t order done < t .n
+pub next-below : (t : Table) (order : List ℕ) (sifted : List Bool) → 0 < t .n → nextOf t order sifted < t .n
 unfolding nextOf
-next-below t order done h = most-below (nodesOf t order) (t .n) (left (t .n) done) (left-below (t .n) done) h
+next-below t order sifted h = most-below (nodesOf t order) (t .n) (unmarked (t .n) sifted) (unmarked-below (t .n) sifted) h
 
--- by the nodes of ten levels
-module _ (t : Table) (order : List ℕ) (done : List Bool) (o : T (isOrder (t .n) order)) (k : t .n ≤ 10) where
+-- by the nodes of each level
+module _ (t : Table) (order : List ℕ) (sifted : List Bool) (o : T (isOrder (t .n) order)) (k : t .n ≤ mostVariables) where
   nodes-ten : (v : ℕ) → v < t .n → nodesAt (tenOf (counts true (t .n) (filled true t order))) order v ≡ nodesOf t order v
   unfolding nodesOf
   nodes-ten v h =
@@ -57,9 +58,9 @@ module _ (t : Table) (order : List ℕ) (done : List Bool) (o : T (isOrder (t .n
       (omega (arith, index-below (t .n) order o v h))
 
   pub next-counted : (cs : List ℕ) → cs ≡ tenOf (counts true (t .n) (filled true t order))
-      → most (nodesAt cs order) (left (t .n) done) ≡ nextOf t order done
+      → most (nodesAt cs order) (unmarked (t .n) sifted) ≡ nextOf t order sifted
   unfolding nextOf
   next-counted cs e =
-      ap (λ (l : List ℕ). most (nodesAt l order) (left (t .n) done)) e
-      ∙ most-cong (nodesAt (tenOf (counts true (t .n) (filled true t order))) order) (nodesOf t order) (left (t .n) done)
-      (λ w h. nodes-ten w (left-below (t .n) done w h))
+      ap (λ (l : List ℕ). most (nodesAt l order) (unmarked (t .n) sifted)) e
+      ∙ most-cong (nodesAt (tenOf (counts true (t .n) (filled true t order))) order) (nodesOf t order) (unmarked (t .n) sifted)
+      (λ w h. nodes-ten w (unmarked-below (t .n) sifted w h))

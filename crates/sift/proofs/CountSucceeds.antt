@@ -29,7 +29,8 @@ refusals = 1 ∷ 2 ∷ 3 ∷ 4 ∷ 5 ∷ 6 ∷ 7 ∷ 8 ∷ 9 ∷ 10 ∷ 11 ∷ 1
 pub never-other {ℓ} : {X : Type ℓ} (a : Answer) (v : ℕ) → a ≡ Done v → OneOf refusals (tagOf the-type a) → X
 never-other a v e k = absurd (miss refusals 0 tt (subst (λ (b : Answer). OneOf refusals (tagOf the-type b)) e k))
 
-module _ (s : State) (l values care work : List ℕ) (e : T (enough values care work)) (g : T (goodHeading (s .n) (s .m) (take (s .n) l))) where
+module _ (s : State) (l values care work : List ℕ) (e : T (enough values care work))
+    (g : T (goodHeading (s .n) (s .m) (take (s .n) l))) where
   reordered-stage : stageOf (reorderedState s l) ≡ AtTable
   reordered-stage = stage-good (reorderedState s l) (of-T g)
 
@@ -45,7 +46,8 @@ module _ (s : State) (l values care work : List ℕ) (e : T (enough values care 
   count-zero = rw count-done
 
   -- of a state that is the reordered one
-  pub counted : (t : State) → t ≡ reorderedState s l → countAnswer t values care work ≡ Done (cost (heldTable s values care) (take (s .n) l))
+  pub counted : (t : State) → t ≡ reorderedState s l
+      → countAnswer t values care work ≡ Done (cost (heldTable s values care) (take (s .n) l))
   counted t d = ap (λ (u : State). countAnswer u values care work) d ∙ count-done
 
   pub counted-work : (t : State) → t ≡ reorderedState s l → countWork t values care work ≡ zeroWork work

@@ -14,16 +14,16 @@ use Rattle.table.specs.State.{goodHeading, orderOf, reorderedState}
 use Rattle.fill.specs.Calls.{heldTable}
 use Rattle.sift.specs.declared.trials.Best.{Best}
 use Rattle.sift.specs.declared.passes.Progress.{Progress}
-use Rattle.sift.specs.Tried.{bestOf}
-use Rattle.sift.specs.Turns.{nextIn, turnOf}
-use Rattle.sift.proofs.Trying.{best-below}
-use Rattle.sift.proofs.Chosen.{next-below}
+use Rattle.sift.specs.inner.Trials.{bestOf}
+use Rattle.sift.specs.inner.Turns.{nextIn, turnOf}
+use Rattle.sift.proofs.BestLevel.{best-below}
+use Rattle.sift.proofs.NextVariable.{next-below}
 
 module _ (s : State) (p : Progress) (values care : List ℕ) (g : T (goodHeading (s .n) (s .m) (take (s .n) (p .order)))) (some : 0 < s .n)
     (v : ℕ) (dv : v ≡ nextIn (heldTable s values care) p) where
   pub turn-below : v < s .n
   turn-below =
-      subst (λ (k : ℕ). k < s .n) (sym dv) (next-below (heldTable s values care) (take (s .n) (p .order)) (p .done) some)
+      subst (λ (k : ℕ). k < s .n) (sym dv) (next-below (heldTable s values care) (take (s .n) (p .order)) (p .sifted) some)
 
   module _ (current : State) (dc : current ≡ reorderedState s (p .order)) where
     pub current-heading : T (goodHeading (current .n) (current .m) (orderOf current))
@@ -36,19 +36,19 @@ module _ (s : State) (p : Progress) (values care : List ℕ) (g : T (goodHeading
       best-now : b ≡ bestOf (heldTable s values care) v (take (s .n) (p .order))
       best-now = db ∙ ap (λ (c : State). bestOf (heldTable c values care) v (orderOf c)) dc
 
-      pub turn-place : b .place < s .n
-      turn-place = best-below (heldTable s values care) v (take (s .n) (p .order)) b best-now turn-below
+      pub turn-level : b .level < s .n
+      turn-level = best-below (heldTable s values care) v (take (s .n) (p .order)) b best-now turn-below
 
       pub turn-tried : b .tried ≡ s .n
       unfolding bestOf
       turn-tried = ap (λ (x : Best). x .tried) best-now
 
-      turn-sifts : moved v (b .place) (take (s .n) (p .order)) ≡ sift (heldTable s values care) v (take (s .n) (p .order))
+      turn-sifts : moved v (b .level) (take (s .n) (p .order)) ≡ sift (heldTable s values care) v (take (s .n) (p .order))
       unfolding sift bestOf
-      turn-sifts = ap (λ (x : Best). moved v (x .place) (take (s .n) (p .order))) best-now
+      turn-sifts = ap (λ (x : Best). moved v (x .level) (take (s .n) (p .order))) best-now
 
-      pub turned : (after : List ℕ) → after ≡ moved v (b .place) (take (s .n) (p .order)) ++ drop (s .n) (p .order)
-          → record { order = after; done = set (p .done) v true; sifted = p .sifted + 1; tried = p .tried + b .tried }
+      pub turned : (after : List ℕ) → after ≡ moved v (b .level) (take (s .n) (p .order)) ++ drop (s .n) (p .order)
+          → record { order = after; sifted = set (p .sifted) v true; turns = p .turns + 1; tried = p .tried + b .tried }
           ≡ turnOf (heldTable s values care) p
       unfolding turnOf
       turned after e =
@@ -57,7 +57,7 @@ module _ (s : State) (p : Progress) (values care : List ℕ) (g : T (goodHeading
           e ∙ ap (λ (xs : List ℕ). xs ++ drop (s .n) (p .order)) (turn-sifts ∙ ap (λ (w : ℕ). sift t w (take (s .n) (p .order))) dv) in
           λ i. record {
             order = o i;
-            done = set (p .done) (dv i) true;
-            sifted = p .sifted + 1;
+            sifted = set (p .sifted) (dv i) true;
+            turns = p .turns + 1;
             tried = p .tried + turn-tried i;
           }

@@ -18,7 +18,7 @@ use Rattle.diagram.proofs.Bools.{split, to-T}
 use Rattle.diagram.proofs.Lists.{eqb-equality, apart-first, apart-rest, without-none, without-length}
 use Rattle.diagram.proofs.Order.{order-length, order-distinct, every-variable}
 use Rattle.diagram.proofs.Moved.{moved-order}
-use Rattle.sift.specs.Entries.{otherEntry, movedEntry}
+use Rattle.sift.specs.inner.Entries.{otherEntry, movedEntry}
 
 -- the others
 
@@ -94,7 +94,8 @@ module _ (n : ℕ) (l : List ℕ) (o : T (isOrder n (take n l))) (v p : ℕ) (hv
   length-others : suc (length others) ≡ n
   unfolding others
   length-others =
-      without-length eqb eqb-equality v (take n l) (order-distinct n (take n l) o) (every-variable n (take n l) o v hv) ∙ order-length n (take n l) o
+      without-length eqb eqb-equality v (take n l) (order-distinct n (take n l) o) (every-variable n (take n l) o v hv)
+      ∙ order-length n (take n l) o
 
   length-above : length (take p others) ≡ p
   length-above = length-take-le p others (omega (arith, length-others))

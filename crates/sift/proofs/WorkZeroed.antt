@@ -3,7 +3,8 @@
 use mathlib.Core.Path.{_≡_, refl, sym, ap, _∙_, subst}
 use mathlib.Core.Bool.{_&&_}
 use mathlib.Core.List.{List, _++_}
-use Prim.Native.Nat.{ℕ, _≤_}
+use Prim.Native.Nat.{ℕ, _≤_, _<_}
+use native.Mathlib.Nat.{not-suc-le-zero}
 use native.Mathlib.Omega.{arith}
 use lib.Dec.{T, leb, leb→le, le→leb}
 use lib.ListN.{length, drop, replicate, length-append, length-replicate}
@@ -18,7 +19,8 @@ use Rattle.fill.proofs.CallLaws.{cleared-zero as long-cleared}
 zero-zero : (work : List ℕ) → zeroWork (zeroWork work) ≡ zeroWork work
 unfolding zeroWork
 zero-zero work =
-    ap (λ (l : List ℕ). replicate workSize 0 ++ l) (drop-at (replicate workSize 0) (drop workSize work) workSize (length-replicate workSize 0))
+    ap (λ (l : List ℕ). replicate workSize 0 ++ l)
+    (drop-at (replicate workSize 0) (drop workSize work) workSize (length-replicate workSize 0))
 
 zero-long : (work : List ℕ) → workSize ≤ length (zeroWork work)
 unfolding zeroWork
@@ -49,26 +51,37 @@ enough-again values care work after e d = subst (λ (w : List ℕ). T (enough va
 pub zero-again : (work after last : List ℕ) → after ≡ zeroWork work → last ≡ zeroWork after → last ≡ zeroWork work
 zero-again work after last d e = e ∙ ap zeroWork d ∙ zero-zero work
 
--- a work buffer in the middle of a call: what zeroing one that was zero leaves
-pub record Zeroed (values care found work : List ℕ) : Type 0 where
-  pub zero : work ≡ zeroWork found
+-- a work buffer in the middle of a call, after so many calls that each zero it
+pub record Zeroed (values care found : List ℕ) (calls : ℕ) (work : List ℕ) : Type 0 where
   pub room : T (enough values care work)
+  pub same : zeroWork work ≡ zeroWork found
+  pub zero : 0 < calls → work ≡ zeroWork found
 
 module _ (values care found : List ℕ) where
-  pub zeroed-first : (entry : List ℕ) → T (enough values care entry) → found ≡ zeroWork entry → Zeroed values care found found
+  -- before the first call it is as found
+  pub zeroed-none : T (enough values care found) → Zeroed values care found 0 found
+  zeroed-none e = record { room = e; same = refl; zero = λ h. absurd (not-suc-le-zero h) }
+
+  -- or it was zeroed already
+  pub zeroed-first : (entry : List ℕ) → T (enough values care entry) → found ≡ zeroWork entry → Zeroed values care found 1 found
   zeroed-first entry e d =
       record {
-        zero = d ∙ sym (ap zeroWork d ∙ zero-zero entry);
         room = enough-again values care entry found e d;
+        same = refl;
+        zero = λ _. d ∙ sym (ap zeroWork d ∙ zero-zero entry);
       }
 
-  pub zeroed-again : (work after : List ℕ) → Zeroed values care found work → after ≡ zeroWork work → Zeroed values care found after
-  zeroed-again work after z d =
-      let e : after ≡ zeroWork found = zero-again found work after (z .zero) d in
-      record { zero = e; room = subst (λ (w : List ℕ). T (enough values care w)) (z .zero ∙ sym e) (z .room) }
+  pub zeroed-again : (j k : ℕ) (work after : List ℕ) → Zeroed values care found j work → after ≡ zeroWork work
+      → Zeroed values care found k after
+  zeroed-again j k work after z d =
+      record {
+        room = enough-again values care work after (z .room) d;
+        same = ap zeroWork d ∙ zero-zero work ∙ z .same;
+        zero = λ _. d ∙ z .same;
+      }
 
-  pub zeroed-last : (entry work : List ℕ) → found ≡ zeroWork entry → Zeroed values care found work → work ≡ zeroWork entry
-  zeroed-last entry work d z = zero-again entry found work d (z .zero)
+  pub zeroed-last : (entry work : List ℕ) → found ≡ zeroWork entry → Zeroed values care found 1 work → work ≡ zeroWork entry
+  zeroed-last entry work d z = zero-again entry found work d (z .zero (omega arith))
 
 -- a cleared work buffer that is as long as a call asks
 pub cleared-zero : (values care work : List ℕ) → T (enough values care work) → clearedWork work ≡ zeroWork work

@@ -18,22 +18,22 @@ use Rattle.diagram.proofs.Numbers.{length-upTo}
 use Rattle.diagram.proofs.Most.{most-most}
 use Rattle.diagram.proofs.UpTo.{getD-upTo}
 use Rattle.sift.specs.declared.choice.Lead.{Lead}
-use Rattle.sift.specs.Choice.{overtaken}
+use Rattle.sift.specs.inner.Choice.{overtaken}
 
--- a sifted variable takes no lead, nor does one with fewer
+-- a marked variable takes no lead, nor does one with fewer
 
-pub overtaken-sifted : (l : Lead) (v nodes : ℕ) (sifted : Bool) → sifted ≡ true → overtaken l v nodes sifted ≡ l
+pub overtaken-marked : (l : Lead) (v nodes : ℕ) (marked : Bool) → marked ≡ true → overtaken l v nodes marked ≡ l
 unfolding overtaken
-overtaken-sifted l v nodes sifted e = rw e
+overtaken-marked l v nodes marked e = rw e
 
-pub overtaken-fewer : (l : Lead) (v nodes : ℕ) (sifted : Bool) → sifted ≡ false → nodes < l .nodes → overtaken l v nodes sifted ≡ l
+pub overtaken-fewer : (l : Lead) (v nodes : ℕ) (marked : Bool) → marked ≡ false → nodes < l .nodes → overtaken l v nodes marked ≡ l
 unfolding overtaken
-overtaken-fewer l v nodes sifted e h = rw (e, lt-ltb nodes (l .nodes) h)
+overtaken-fewer l v nodes marked e h = rw (e, lt-ltb nodes (l .nodes) h)
 
-pub overtaken-more : (l : Lead) (v nodes : ℕ) (sifted : Bool) → sifted ≡ false → l .nodes ≤ nodes
-    → overtaken l v nodes sifted ≡ record { variable = v; nodes = nodes }
+pub overtaken-more : (l : Lead) (v nodes : ℕ) (marked : Bool) → marked ≡ false → l .nodes ≤ nodes
+    → overtaken l v nodes marked ≡ record { variable = v; nodes = nodes }
 unfolding overtaken
-overtaken-more l v nodes sifted e h = rw (e, le-ltb nodes (l .nodes) h)
+overtaken-more l v nodes marked e h = rw (e, le-ltb nodes (l .nodes) h)
 
 -- the most of a list, with v before it
 
@@ -83,11 +83,11 @@ module _ (f : ℕ → ℕ) where
   leading-cons v (w ∷ ws) = lead-by v (mostOf f w ws) (mostOf f v (w ∷ ws)) (mostOf-behind v w ws)
 
   -- one variable more, marked or not
-  leading-keep : (sifted : ℕ → Bool) (v : ℕ) (vs : List ℕ)
-      → leading (keep (λ w. not (sifted w)) (v ∷ vs)) ≡ overtaken (leading (keep (λ w. not (sifted w)) vs)) v (f v) (sifted v)
-  leading-keep sifted v vs =
-      split (sifted v) (λ e. rw e (sym (overtaken-sifted (leading (keep (λ w. not (sifted w)) vs)) v (f v) true refl)))
-      (λ e. rw e (leading-cons v (keep (λ w. not (sifted w)) vs)))
+  leading-keep : (marked : ℕ → Bool) (v : ℕ) (vs : List ℕ)
+      → leading (keep (λ w. not (marked w)) (v ∷ vs)) ≡ overtaken (leading (keep (λ w. not (marked w)) vs)) v (f v) (marked v)
+  leading-keep marked v vs =
+      split (marked v) (λ e. rw e (sym (overtaken-marked (leading (keep (λ w. not (marked w)) vs)) v (f v) true refl)))
+      (λ e. rw e (leading-cons v (keep (λ w. not (marked w)) vs)))
 
 -- the numbers from v to n - 1
 
@@ -99,19 +99,19 @@ from-cons n v h =
     drop-cons (upTo n) v 0 (omega (arith, length-upTo n))
     ∙ ap₂ (λ (x k : ℕ). x ∷ drop k (upTo n)) (getD-upTo n v h) (sym (add-one v))
 
--- the lead of the variables from v on that are not sifted
+-- the lead of the variables from v on that are not marked
 
-module _ (f : ℕ → ℕ) (sifted : ℕ → Bool) (n : ℕ) where
-  pub lead-none : (l : Lead) → l ≡ record { variable = 0; nodes = 0 } → l ≡ leading f (keep (λ w. not (sifted w)) (drop n (upTo n)))
-  lead-none l e = e ∙ ap (λ (vs : List ℕ). leading f (keep (λ w. not (sifted w)) vs)) (sym (from-none n))
+module _ (f : ℕ → ℕ) (marked : ℕ → Bool) (n : ℕ) where
+  pub lead-none : (l : Lead) → l ≡ record { variable = 0; nodes = 0 } → l ≡ leading f (keep (λ w. not (marked w)) (drop n (upTo n)))
+  lead-none l e = e ∙ ap (λ (vs : List ℕ). leading f (keep (λ w. not (marked w)) vs)) (sym (from-none n))
 
-  pub lead-more : (v : ℕ) → v < n → (l m : Lead) → l ≡ leading f (keep (λ w. not (sifted w)) (drop (v + 1) (upTo n)))
-      → m ≡ overtaken l v (f v) (sifted v) → m ≡ leading f (keep (λ w. not (sifted w)) (drop v (upTo n)))
+  pub lead-more : (v : ℕ) → v < n → (l m : Lead) → l ≡ leading f (keep (λ w. not (marked w)) (drop (v + 1) (upTo n)))
+      → m ≡ overtaken l v (f v) (marked v) → m ≡ leading f (keep (λ w. not (marked w)) (drop v (upTo n)))
   lead-more v h l m e d =
-      d ∙ ap (λ (x : Lead). overtaken x v (f v) (sifted v)) e
-      ∙ sym (leading-keep f sifted v (drop (v + 1) (upTo n)))
-      ∙ ap (λ (vs : List ℕ). leading f (keep (λ w. not (sifted w)) vs)) (sym (from-cons n v h))
+      d ∙ ap (λ (x : Lead). overtaken x v (f v) (marked v)) e
+      ∙ sym (leading-keep f marked v (drop (v + 1) (upTo n)))
+      ∙ ap (λ (vs : List ℕ). leading f (keep (λ w. not (marked w)) vs)) (sym (from-cons n v h))
 
-  pub lead-all : (l : Lead) → l ≡ leading f (keep (λ w. not (sifted w)) (drop 0 (upTo n)))
-      → l .variable ≡ most f (keep (λ w. not (sifted w)) (upTo n))
-  lead-all l e = ap (λ (x : Lead). x .variable) e ∙ leading-most f (keep (λ w. not (sifted w)) (upTo n))
+  pub lead-all : (l : Lead) → l ≡ leading f (keep (λ w. not (marked w)) (drop 0 (upTo n)))
+      → l .variable ≡ most f (keep (λ w. not (marked w)) (upTo n))
+  lead-all l e = ap (λ (x : Lead). x .variable) e ∙ leading-most f (keep (λ w. not (marked w)) (upTo n))

@@ -10,6 +10,7 @@ use native.Mathlib.Omega.{arith}
 use lib.Dec.{T}
 use lib.ListN.{length, set, take, drop, take-append-drop}
 use lib.Seq.{take-at, drop-at}
+use Rattle.diagram.specs.Bound.{mostVariables}
 use Rattle.diagram.specs.Order.{isOrder}
 use Rattle.diagram.specs.Table.{Table}
 use Rattle.diagram.specs.Sift.{sift, Pass, next, turn, allowed}
@@ -21,14 +22,14 @@ use Rattle.table.proofs.Held.{heading-inputs, heading-order}
 use Rattle.fill.specs.Calls.{heldTable}
 use Rattle.sift.specs.declared.passes.Progress.{Progress}
 use Rattle.sift.specs.Calls.{passOf}
-use Rattle.sift.specs.Choice.{nextOf}
-use Rattle.sift.specs.Turns.{marks, progressOf, nextIn, turnOf}
-use Rattle.sift.proofs.Headings.{heading-with, take-order}
-use Rattle.sift.proofs.Marked.{mark-more, next-marked}
+use Rattle.sift.specs.inner.Choice.{nextOf}
+use Rattle.sift.specs.inner.Turns.{marks, progressOf, nextIn, turnOf}
+use Rattle.sift.proofs.ReorderedHeading.{heading-with, take-order}
+use Rattle.sift.proofs.SiftedMarks.{mark-more, next-marked}
 
 -- a turn of a pass that is held is the held turn of the pass
 
-module _ (s : State) (values care : List ℕ) (k : s .n ≤ 10) (q : Pass) (going : Going (heldTable s values care) q)
+module _ (s : State) (values care : List ℕ) (k : s .n ≤ mostVariables) (q : Pass) (going : Going (heldTable s values care) q)
     (h : length (q .sifted) < s .n) where
   order-held : take (s .n) (progressOf s q .order) ≡ q .order
   unfolding progressOf
@@ -49,17 +50,18 @@ module _ (s : State) (values care : List ℕ) (k : s .n ≤ 10) (q : Pass) (goin
   turn-held =
       let t : Table = heldTable s values care in
       let o = ap₂ (λ (v : ℕ) (order : List ℕ). sift t v order) next-held order-held in
+      let more = mark-more (q .sifted) (next t q) (le-trans (next-below t q h) k) in
       λ i. record {
         order = o i ++ past-held i;
-        done = (ap (λ (v : ℕ). set (marks (q .sifted)) v true) next-held ∙ mark-more (q .sifted) (next t q) (le-trans (next-below t q h) k)) i;
-        sifted = add-one (length (q .sifted)) i;
+        sifted = (ap (λ (v : ℕ). set (marks (q .sifted)) v true) next-held ∙ more) i;
+        turns = add-one (length (q .sifted)) i;
         tried = q .tried + s .n;
       }
 
--- after as many turns as variables are marked, and within the limit
+-- after so many turns, and within the limit
 pub record Running (s : State) (limit : ℕ) (values care : List ℕ) (p : Progress) : Type 0 where
-  pub held : p ≡ progressOf s (afterTurns (heldTable s values care) (p .sifted) (orderOf s))
-  pub within : p .sifted ≤ s .n
+  pub held : p ≡ progressOf s (afterTurns (heldTable s values care) (p .turns) (orderOf s))
+  pub within : p .turns ≤ s .n
   pub limited : p .tried ≤ limit
 
 module _ (s : State) (limit : ℕ) (values care : List ℕ) (g : T (goodHeading (s .n) (s .m) (orderOf s))) where
@@ -69,46 +71,47 @@ module _ (s : State) (limit : ℕ) (values care : List ℕ) (g : T (goodHeading 
   going : (k : ℕ) → k ≤ s .n → Going (heldTable s values care) (after k)
   going k h = after-going (heldTable s values care) (orderOf s) (heading-order (s .n) (s .m) (orderOf s) g) k h
 
-  pub running-start : (p : Progress) → p ≡ record { order = s .order; done = marks []; sifted = 0; tried = 0 } → Running s limit values care p
+  pub running-start : (p : Progress) → p ≡ record { order = s .order; sifted = marks []; turns = 0; tried = 0 }
+      → Running s limit values care p
   unfolding progressOf afterTurns
   running-start p e =
-      let none : p .sifted ≡ 0 = ap (λ (x : Progress). x .sifted) e in
+      let none : p .turns ≡ 0 = ap (λ (x : Progress). x .turns) e in
       record {
         held =
-            e ∙ (λ i. record { order = sym (take-append-drop (s .n) (s .order)) i; done = marks []; sifted = 0; tried = 0 })
+            e ∙ (λ i. record { order = sym (take-append-drop (s .n) (s .order)) i; sifted = marks []; turns = 0; tried = 0 })
             ∙ ap (λ (k : ℕ). progressOf s (after k)) (sym none);
         within = omega arith;
         limited = omega (arith, ap (λ (x : Progress). x .tried) e);
       }
 
   module _ (p : Progress) (r : Running s limit values care p) where
-    order-now : p .order ≡ after (p .sifted) .order ++ drop (s .n) (s .order)
+    order-now : p .order ≡ after (p .turns) .order ++ drop (s .n) (s .order)
     unfolding progressOf
     order-now = ap (λ (x : Progress). x .order) (r .held)
 
-    tried-now : p .tried ≡ p .sifted * s .n
+    tried-now : p .tried ≡ p .turns * s .n
     unfolding progressOf
-    tried-now = ap (λ (x : Progress). x .tried) (r .held) ∙ after-tried (heldTable s values care) (p .sifted) (orderOf s)
+    tried-now = ap (λ (x : Progress). x .tried) (r .held) ∙ after-tried (heldTable s values care) (p .turns) (orderOf s)
 
     pub running-heading : T (goodHeading (s .n) (s .m) (take (s .n) (p .order)))
     running-heading =
-        let o : T (isOrder (s .n) (after (p .sifted) .order)) = going (p .sifted) (r .within) .valid in
+        let o : T (isOrder (s .n) (after (p .turns) .order)) = going (p .turns) (r .within) .valid in
         subst (λ (xs : List ℕ). T (goodHeading (s .n) (s .m) xs))
-        (sym (take-order (s .n) (after (p .sifted) .order) (s .order) (p .order) o order-now))
-        (heading-with (s .n) (s .m) (orderOf s) g (after (p .sifted) .order) o)
+        (sym (take-order (s .n) (after (p .turns) .order) (s .order) (p .order) o order-now))
+        (heading-with (s .n) (s .m) (orderOf s) g (after (p .turns) .order) o)
 
     -- one turn more
-    module _ (h : p .sifted < s .n) (l : p .tried + s .n ≤ limit) (q : Progress) (e : q ≡ turnOf (heldTable s values care) p) where
-      turned-now : q ≡ progressOf s (after (suc (p .sifted)))
+    module _ (h : p .turns < s .n) (l : p .tried + s .n ≤ limit) (q : Progress) (e : q ≡ turnOf (heldTable s values care) p) where
+      turned-now : q ≡ progressOf s (after (suc (p .turns)))
       turned-now =
           e ∙ ap (turnOf (heldTable s values care)) (r .held)
-          ∙ turn-held s values care (heading-inputs (s .n) (s .m) (orderOf s) g) (after (p .sifted)) (going (p .sifted) (r .within))
-          (omega (arith, after-sifted (heldTable s values care) (p .sifted) (orderOf s)))
-          ∙ ap (progressOf s) (sym (after-suc (heldTable s values care) (p .sifted) (orderOf s)))
+          ∙ turn-held s values care (heading-inputs (s .n) (s .m) (orderOf s) g) (after (p .turns)) (going (p .turns) (r .within))
+          (omega (arith, after-sifted (heldTable s values care) (p .turns) (orderOf s)))
+          ∙ ap (progressOf s) (sym (after-suc (heldTable s values care) (p .turns) (orderOf s)))
 
-      one-more : q .sifted ≡ suc (p .sifted)
+      one-more : q .turns ≡ suc (p .turns)
       unfolding progressOf
-      one-more = ap (λ (x : Progress). x .sifted) turned-now ∙ after-sifted (heldTable s values care) (suc (p .sifted)) (orderOf s)
+      one-more = ap (λ (x : Progress). x .turns) turned-now ∙ after-sifted (heldTable s values care) (suc (p .turns)) (orderOf s)
 
       more-tried : q .tried ≡ p .tried + s .n
       unfolding turnOf
@@ -122,14 +125,14 @@ module _ (s : State) (limit : ℕ) (values care : List ℕ) (g : T (goodHeading 
             limited = omega (arith, more-tried);
           }
 
-      pub running-less : q .sifted ≡ p .sifted + 1
+      pub running-less : q .turns ≡ p .turns + 1
       running-less = omega (arith, one-more)
 
     -- it stops where all are sifted, or where the limit has no room
-    pub running-stop : (p .sifted < s .n → limit < p .tried + s .n) → p ≡ progressOf s (passOf s limit values care)
+    pub running-stop : (p .turns < s .n → limit < p .tried + s .n) → p ≡ progressOf s (passOf s limit values care)
     running-stop m =
-        let a : allowed (s .n) limit ≡ p .sifted =
-        allowed-only (s .n) limit (p .sifted) (r .within) (omega (arith, tried-now, r .limited)) (λ h. omega (arith, tried-now, m h)) in
+        let a : allowed (s .n) limit ≡ p .turns =
+        allowed-only (s .n) limit (p .turns) (r .within) (omega (arith, tried-now, r .limited)) (λ h. omega (arith, tried-now, m h)) in
         r .held
         ∙ ap (λ (k : ℕ). progressOf s (after k)) (sym a)
         ∙ ap (progressOf s) (sym (turns (heldTable s values care) limit (orderOf s)))

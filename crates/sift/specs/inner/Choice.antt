@@ -10,17 +10,17 @@ use Rattle.diagram.specs.Table.{Table}
 use Rattle.diagram.specs.Sift.{nodesOf, most}
 use Rattle.sift.specs.declared.choice.Lead.{Lead}
 
--- who leads after the variable v, with so many nodes
+-- who leads after the variable v, with so many nodes: one marked as sifted never does
 unfoldable pub overtaken : Lead → ℕ → ℕ → Bool → Lead
-overtaken l v nodes sifted = cond sifted l (cond (ltb nodes (l .nodes)) l (record { variable = v; nodes = nodes }))
+overtaken l v nodes marked = cond marked l (cond (ltb nodes (l .nodes)) l (record { variable = v; nodes = nodes }))
 
 -- a variable's nodes, by the nodes of each level
 abbrev pub nodesAt : List ℕ → List ℕ → ℕ → ℕ
 nodesAt counts order v = getD counts (index eqb v order) 0
 
 -- the variables below n that are not marked, lowest first
-abbrev pub left : ℕ → List Bool → List ℕ
-left n done = keep (λ v. not (getD done v false)) (upTo n)
+abbrev pub unmarked : ℕ → List Bool → List ℕ
+unmarked n sifted = keep (λ v. not (getD sifted v false)) (upTo n)
 
 unfoldable pub nextOf : Table → List ℕ → List Bool → ℕ
-nextOf t order done = most (nodesOf t order) (left (t .n) done)
+nextOf t order sifted = most (nodesOf t order) (unmarked (t .n) sifted)

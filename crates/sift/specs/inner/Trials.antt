@@ -1,0 +1,25 @@
+-- What trying a variable at one level after the other finds.
+-- Assumes nothing.
+use mathlib.Core.Bool.{cond, _||_}
+use mathlib.Core.List.{List}
+use Prim.Native.Nat.{ℕ, _+_}
+use lib.Dec.{eqb, ltb}
+use Rattle.diagram.specs.Order.{moved}
+use Rattle.diagram.specs.Table.{Table, cost}
+use Rattle.diagram.specs.Sift.{chosen}
+use Rattle.sift.specs.declared.trials.Best.{Best}
+
+-- the cost of the order with v moved to level p
+abbrev pub costAt : Table → ℕ → List ℕ → ℕ → ℕ
+costAt t v order p = cost t (moved v p order)
+
+-- the best with one trial more, of level p with so many nodes
+unfoldable pub bestWith : Best → ℕ → ℕ → Best
+bestWith b p nodes =
+    cond (eqb (b .tried) 0 || ltb nodes (b .cost)) (record { level = p; cost = nodes; tried = b .tried + 1 })
+    (record { level = b .level; cost = b .cost; tried = b .tried + 1 })
+
+-- the level that sifting v takes, the cost of the order with v there, and the n orders tried
+unfoldable pub bestOf : Table → ℕ → List ℕ → Best
+bestOf t v order =
+    record { level = chosen t v order (t .n); cost = costAt t v order (chosen t v order (t .n)); tried = t .n }
