@@ -1,4 +1,5 @@
--- Finished entries are apart: none is constant on its cared rows, no two agree, plain or inverted. So their filled functions vary and differ.
+-- Finished entries are apart: none is constant on its cared rows, no two agree, plain or inverted. So their filled functions vary and
+-- differ.
 -- Assumes nothing.
 use mathlib.Core.Path.{_≡_, refl, sym, ap, _∙_}
 use mathlib.Core.Bool.{Bool, true, false, not, _&&_}
@@ -53,7 +54,8 @@ against-along (next m r) x n a = (a .0, against-along r x n (a .1))
 apart-along : {d : ℕ} {inv : Bool} {f : Tree Row d} {gs es : List (Tree Row d)} {k : ℕ} {i : Bool} → Along inv f gs k i es →
     ((v : Bool) → always v f ≡ false) → Apart inv gs → Apart inv es
 apart-along new n a = (n, tt, tt)
-apart-along {inv} {f} (met {g = g} {gs = gs} i c t) n a = ((λ v. merge-varies i f g t v (a .0 v)), against-merge inv i f g gs t (a .1), a .2)
+apart-along {inv} {f} (met {g = g} {gs = gs} i c t) n a =
+    ((λ v. merge-varies i f g t v (a .0 v)), against-merge inv i f g gs t (a .1), a .2)
 apart-along {inv} {f} (next {g = g} m r) n a = (a .0, against-along r g (differ-sym inv f g m) (a .1), apart-along r n (a .2))
 
 apart-joined : {d : ℕ} {inv : Bool} {f : Tree Row d} {gs es : List (Tree Row d)} {l : Link} → Joined inv f gs l es → Apart inv gs
@@ -114,7 +116,8 @@ keeps-differ : {d : ℕ} (inv : Bool) (e e′ : Tree Row d) (t t′ : Tree Bool 
     same (normal inv t) (normal inv t′) ≡ false
 keeps-differ inv e e′ t t′ k k′ n =
     split (same (normal inv t) (normal inv t′))
-    (λ w. absurd-T (rw and-flip at (keeps-agree (inv && first t) (inv && first t′) e e′ t t′ k k′ (to-T w))) (n (flip (first t) (first t′))))
+    (λ w. absurd-T (rw and-flip at (keeps-agree (inv && first t) (inv && first t′) e e′ t t′ k k′ (to-T w)))
+    (n (flip (first t) (first t′))))
     (λ w. w)
 
 none-same : {d : ℕ} (inv : Bool) (e : Tree Row d) (t : Tree Bool d) (es : List (Tree Row d)) (ts : List (Tree Bool d)) →

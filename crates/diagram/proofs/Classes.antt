@@ -10,7 +10,8 @@ use lib.ListN.{length, length-map}
 use Rattle.diagram.specs.Lists.{keep, has, distinct}
 use Rattle.diagram.specs.Tree.{Tree, same}
 use Rattle.diagram.specs.Network.{depends, normal, classes}
-use Rattle.diagram.proofs.Lists.{keep-length, has-keep, keep-has, has-firsts, firsts-has, distinct-firsts, firsts-length, has-map, map-has}
+use Rattle.diagram.proofs.Lists.{keep-length, has-keep, keep-has, has-firsts, firsts-has, distinct-firsts, firsts-length, has-map}
+use Rattle.diagram.proofs.Lists.{map-has}
 use Rattle.diagram.proofs.Tree.{same-equality, depends-normal, normal-normal}
 
 module _ {d : ℕ} (inv : Bool) (ts : List (Tree Bool (suc d))) where

@@ -3,10 +3,12 @@
 use mathlib.Core.Path.{_≡_, sym, ap, _∙_, subst}
 use mathlib.Core.Bool.{Bool, true, false, _&&_}
 use mathlib.Core.List.{List, map}
+use mathlib.Core.Logic.{_↔_}
 use Prim.Native.Nat.{ℕ, _+_, _≤_, _<_, _^_}
-use native.Mathlib.Nat.{le-refl, le-trans}
+use native.Mathlib.Nat.{le-refl}
 use native.Mathlib.Omega.{arith}
-use lib.Dec.{T, eqb, eqb→eq}
+use borrow.Author.Tests.{ltb-true, ltb-false}
+use lib.Dec.{T, eqb, eqb→eq, ltb}
 use lib.ListN.{length, getD}
 use Rattle.diagram.specs.Lists.{upTo, rowNumber, index}
 use Rattle.diagram.specs.Tree.{Tree, at, full, inverted}
@@ -15,7 +17,8 @@ use Rattle.diagram.specs.Diagram.{Diagram, refers, wellFormed}
 use Rattle.diagram.specs.Network.{network, count}
 use Rattle.diagram.specs.Order.{isOrder, rowUnder}
 use Rattle.diagram.specs.Table.{Table, reordered, filled, filledBit, networkOf, cost, Computes, Solves}
-use Rattle.diagram.specs.Demands.{Kept, Least, FitsFrom}
+use Rattle.diagram.specs.Demands.{Kept, Least, NoneFits}
+use Rattle.diagram.proofs.Bools.{split}
 use Rattle.diagram.proofs.Lists.{all-at}
 use Rattle.diagram.proofs.Tree.{tree-ext, at-above, inverted-false}
 use Rattle.diagram.proofs.Fill.{fill-length}
@@ -59,9 +62,12 @@ module _ (inv : Bool) (t : Table) (order : List ℕ) where
   unfolding networkOf Computes filledBit
   right =
       record {
-        formed = subst (λ (m : ℕ). T (wellFormed inv (t .n) m (networkOf inv t order))) filled-length (network-formed inv (t .n) (filled inv t order));
+        formed =
+            subst (λ (m : ℕ). T (wellFormed inv (t .n) m (networkOf inv t order))) filled-length
+            (network-formed inv (t .n) (filled inv t order));
         computes =
-            λ j r hj hr. network-gives inv (t .n) (filled inv t order) (rowUnder (t .n) order r) j (full false (t .n)) (omega (arith, filled-length));
+            λ j r hj hr. network-gives inv (t .n) (filled inv t order) (rowUnder (t .n) order r) j (full false (t .n))
+            (omega (arith, filled-length));
       }
 
   module _ (D : Diagram) (s : Solves inv t order D) where
@@ -111,12 +117,18 @@ module _ (inv : Bool) (t : Table) (order : List ℕ) where
   unfolding Least
   least o D s =
       least-trees inv (t .n) D (solves-good D s) (filled inv t order)
-      (every-at (Reaches inv D (t .n) 0) (filled inv t order) (full false (t .n)) (λ j h. reaches-root D s o j (omega (arith, filled-length))))
+      (every-at (Reaches inv D (t .n) 0) (filled inv t order) (full false (t .n))
+      (λ j h. reaches-root D s o j (omega (arith, filled-length))))
 
-  -- fits: some such diagram fits the board exactly when the network does
-  pub fits : T (isOrder (t .n) order) → FitsFrom inv t order (count inv (t .n) (filled inv t order))
-  unfolding FitsFrom Least networkOf network count
-  fits o capacity = (λ w. le-trans (least o (w .0) (w .1)) (w .2), λ h. (networkOf inv t order, right, h))
+  -- fits: no such diagram fits a board exactly when the network has more nodes than the board
+  pub fits : T (isOrder (t .n) order) → (capacity : ℕ) → NoneFits inv t order capacity ↔ (capacity < count inv (t .n) (filled inv t order))
+  unfolding NoneFits Least networkOf network count
+  fits o capacity =
+      let c = count inv (t .n) (filled inv t order) in (
+        λ none. split (ltb capacity c) (λ e. ltb-true capacity c e)
+            (λ e. absurd (none (networkOf inv t order) right (ltb-false capacity c e))),
+        λ h D s f. absurd (omega (arith, h, least o D s, f)),
+      )
 
 -- the least-nodes theorem in terms of an order's cost
 pub least-cost : (t : Table) (order : List ℕ) → T (isOrder (t .n) order) → Least true t order (cost t order)

@@ -59,12 +59,14 @@ module _ (n m : ℕ) (D : Diagram) (w : T (wellFormed true n m D)) (a : ℕ → 
   worded-even i h =
       let e : (2 * suc i) % 2 ≡ 0 = omega arith in
       let k : (2 * suc i) / 2 - 1 ≡ i = omega arith in
-      gives-edge true n D (formed-nodes true n m D w) a (2 * suc i) (le→leb (2 * suc i) (2 * length (D .nodes) + 1) (omega arith)) (omega arith)
+      gives-edge true n D (formed-nodes true n m D w) a (2 * suc i) (le→leb (2 * suc i) (2 * length (D .nodes) + 1) (omega arith))
+      (omega arith)
       ∙ rw (e, k)
 
   pub worded-odd : (i : ℕ) → i < length (D .nodes) → gives true D a n (2 * suc i + 1) ≡ not (gives true D a n (2 * suc i))
   worded-odd i h =
       let e : (2 * suc i + 1) % 2 ≡ 1 = omega arith in
       let k : (2 * suc i + 1) / 2 - 1 ≡ i = omega arith in
-      gives-edge true n D (formed-nodes true n m D w) a (2 * suc i + 1) (le→leb (2 * suc i + 1) (2 * length (D .nodes) + 1) (omega arith)) (omega arith)
+      gives-edge true n D (formed-nodes true n m D w) a (2 * suc i + 1) (le→leb (2 * suc i + 1) (2 * length (D .nodes) + 1) (omega arith))
+      (omega arith)
       ∙ rw (e, k) (ap not (sym (worded-even i h)))

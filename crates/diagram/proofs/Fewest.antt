@@ -1,4 +1,4 @@
--- The place that sifting takes: the smallest of those with the fewest.
+-- The level that sifting takes: the smallest of those with the fewest.
 -- Assumes nothing.
 use mathlib.Core.Path.{_≡_}
 use mathlib.Core.List.{List}
@@ -18,7 +18,7 @@ module _ (f : ℕ → ℕ) where
   fewest-le (suc k) =
       split (ltb (f (suc k)) (f (fewest f k))) (λ e. rw e (le-refl (suc k))) (λ e. rw e (omega (arith, fewest-le k)))
 
-  -- by the last place: its number is below the fewest so far, or it isn't
+  -- by the last level: its number is below the fewest so far, or it isn't
   pub fewest-least : (k p : ℕ) → p ≤ k → f (fewest f k) ≤ f p
   fewest-least zero p h = let e : p ≡ 0 = omega arith in rw e (le-refl (f 0))
   fewest-least (suc k) p h =
@@ -30,7 +30,7 @@ module _ (f : ℕ → ℕ) where
       rw e (split (eqb p (suc k)) (λ q. rw (eqb→eq p (suc k) (to-T q)) l)
       (λ q. fewest-least k p (le-of-suc-le-suc (below-other p (suc k) (suc-le-suc h) q)))))
 
-  -- every smaller place has more
+  -- every smaller level has more
   pub fewest-first : (k p : ℕ) → p < fewest f k → f (fewest f k) < f p
   fewest-first zero p h = absurd (not-suc-le-zero h)
   fewest-first (suc k) p h =

@@ -35,7 +35,7 @@ unfolding trace
 trace-suc inv d fs = refl
 
 -- one candidate, along the entries: it is a new last entry, or it agrees with an entry and is merged with it,
--- or it agrees with the first neither plain nor inverted and goes on. The number is the place of its entry.
+-- or it agrees with the first neither plain nor inverted and goes on. The number is its entry's.
 pub data Along {d : ℕ} (inv : Bool) (f : Tree Row d) : List (Tree Row d) → ℕ → Bool → List (Tree Row d) → Type 0 where
   new : Along inv f [] zero false (f ∷ [])
   met : {g : Tree Row d} {gs : List (Tree Row d)} (i : Bool) → T (not i || inv) → T (agree i f g)

@@ -11,7 +11,8 @@ use Rattle.diagram.specs.Lists.{has}
 use Rattle.diagram.specs.Tree.{Tree, half, halves, full, inverted, first, same}
 use Rattle.diagram.specs.Network.{depends, normal}
 use Rattle.diagram.proofs.Bools.{split, of-T, to-T, to-not, absurd-T, and-T, or-l, or-r, or-cases}
-use Rattle.diagram.proofs.Tree.{same→eq, same-refl, half-inverted, first-inverted, same-inverted, normal-back, normal-inverted, varies, same-self, varies-full, inverted-full, half-full}
+use Rattle.diagram.proofs.Tree.{same→eq, same-refl, half-inverted, first-inverted, same-inverted, normal-back, normal-inverted}
+use Rattle.diagram.proofs.Tree.{varies, same-self, varies-full, inverted-full, half-full}
 
 -- tests
 
@@ -65,7 +66,8 @@ seen-cases inv gs t e =
     (λ q. absurd-T (and-T (varies t) (not (has same (normal inv t) gs)) (to-T v) (to-not q)) e))
     (λ v. inl v)
 
-pub new-inverted : {d : ℕ} (inv i : Bool) (gs : List (Tree Bool d)) (t : Tree Bool d) → isNew inv gs (inverted (inv && i) t) ≡ isNew inv gs t
+pub new-inverted : {d : ℕ} (inv i : Bool) (gs : List (Tree Bool d)) (t : Tree Bool d)
+    → isNew inv gs (inverted (inv && i) t) ≡ isNew inv gs t
 new-inverted inv i gs t =
     ap₂ _&&_ (varies-inverted (inv && i) t) (ap (λ u. not (has same u gs)) (normal-inverted inv i t))
 
@@ -87,11 +89,13 @@ Within {d} gs hs = (x : Tree Bool d) → T (has same x gs) → T (has same x hs)
 abbrev Covers : {d : ℕ} → Bool → List (Tree Bool (suc d)) → List (Tree Bool d) → Type 0
 Covers {d} inv gs hs = (b : Bool) (t : Tree Bool (suc d)) → T (has same (normal inv t) gs) → isNew inv hs (half b t) ≡ false
 
-seen-within : {d : ℕ} (inv : Bool) (gs hs : List (Tree Bool d)) (t : Tree Bool d) → Within gs hs → isNew inv gs t ≡ false → isNew inv hs t ≡ false
+seen-within : {d : ℕ} (inv : Bool) (gs hs : List (Tree Bool d)) (t : Tree Bool d) → Within gs hs → isNew inv gs t ≡ false
+    → isNew inv hs t ≡ false
 seen-within inv gs hs t w e = ⊎-elim (λ v. seen-steady inv hs t v) (λ h. seen-has inv hs t (w (normal inv t) h)) (seen-cases inv gs t e)
 
 -- a half's class goes by the function's class
-new-half : {d : ℕ} (inv b : Bool) (hs : List (Tree Bool d)) (t : Tree Bool (suc d)) → isNew inv hs (half b t) ≡ isNew inv hs (half b (normal inv t))
+new-half : {d : ℕ} (inv b : Bool) (hs : List (Tree Bool d)) (t : Tree Bool (suc d))
+    → isNew inv hs (half b t) ≡ isNew inv hs (half b (normal inv t))
 new-half inv b hs t =
     ap (λ u. isNew inv hs (half b u)) (sym (normal-back inv t)) ∙ ap (isNew inv hs) (half-inverted b (inv && first t) (normal inv t))
     ∙ new-inverted inv (first t) hs (half b (normal inv t))
@@ -114,7 +118,8 @@ fresh-after {d} inv hs h xs ys f =
     (λ e. rw e (f hs (λ x t. t) e))
 
 -- A function that isn't new has no new half. One that is new has its halves in both lists, and from then on its class is covered.
-pub fresh-halves : {d : ℕ} (inv : Bool) (gs : List (Tree Bool (suc d))) (hs : List (Tree Bool d)) (ts : List (Tree Bool (suc d))) → Covers inv gs hs
+pub fresh-halves : {d : ℕ} (inv : Bool) (gs : List (Tree Bool (suc d))) (hs : List (Tree Bool d)) (ts : List (Tree Bool (suc d)))
+    → Covers inv gs hs
     → fresh inv hs (halves ts) ≡ fresh inv hs (halves (fresh inv gs ts))
 fresh-halves inv gs hs [] c = refl
 fresh-halves {d} inv gs hs (t ∷ ts) c =
@@ -136,6 +141,7 @@ fresh-halves {d} inv gs hs (t ∷ ts) c =
     covered : (ls : List (Tree Bool d)) → Within hs ls → ((b : Bool) → isNew inv ls (half b t) ≡ false) → Covers inv (normal inv t ∷ gs) ls
     covered ls w s b u h =
         ⊎-elim
-        (λ q. new-half inv b ls u ∙ ap (λ x. isNew inv ls (half b x)) (same→eq (normal inv u) (normal inv t) q) ∙ sym (new-half inv b ls t) ∙ s b)
+        (λ q. new-half inv b ls u ∙ ap (λ x. isNew inv ls (half b x)) (same→eq (normal inv u) (normal inv t) q) ∙ sym (new-half inv b ls t)
+        ∙ s b)
         (λ q. seen-within inv hs ls (half b u) w (c b u q))
         (or-cases (same (normal inv u) (normal inv t)) (has same (normal inv u) gs) h)

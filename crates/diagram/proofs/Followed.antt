@@ -15,11 +15,12 @@ use Rattle.diagram.specs.Lists.{flip, all, has, distinct, index}
 use Rattle.diagram.specs.Tree.{Tree, full, inverted, first, same}
 use Rattle.diagram.specs.Fill.{Link, const, entry, follow}
 use Rattle.diagram.specs.Network.{normal}
-use Rattle.diagram.specs.Trace.{sameLink}
+use Rattle.diagram.specs.inner.Trace.{sameLink}
 use Rattle.diagram.proofs.Bools.{both-ways, split, of-T, of-not, to-T, and-T, and-l, and-r, or-l, or-r, beq→eq, beq-refl}
 use Rattle.diagram.proofs.Lists.{all-at, index-getD}
 use Rattle.diagram.proofs.Numbers.{below-other}
-use Rattle.diagram.proofs.Tree.{first-full, varies-full, same→eq, same-equality, eq→same, inverted-false, first-inverted, normal-inverted, varies}
+use Rattle.diagram.proofs.Tree.{first-full, varies-full, same→eq, same-equality, eq→same, inverted-false, first-inverted}
+use Rattle.diagram.proofs.Tree.{normal-inverted, varies}
 use Rattle.diagram.proofs.FirstSeen.{varies-inverted}
 use Rattle.diagram.proofs.FirstSeen.{isNew, fresh, seen-steady, seen-has, new-inverted, fresh-seen, fresh-new}
 use Rattle.diagram.proofs.Rising.{Step, Rising, rising-le, Valid}
@@ -86,7 +87,8 @@ module _ {d : ℕ} (inv : Bool) (E : List (Tree Bool d)) (apart : T (distinct sa
       ∙ f gs (subst (λ q. Met inv E q gs) (sym s) m) ∙ ap (λ q. drop q E) s
   fresh-step k n gs (entry j i) xs (inl s) h m f =
       fresh-seen inv gs (inverted i (nth E j)) xs
-      (ap (λ b. isNew inv gs (inverted b (nth E j))) (s .1) ∙ new-inverted inv i gs (nth E j) ∙ seen-has inv gs (nth E j) (m .before j (s .0)))
+      (ap (λ b. isNew inv gs (inverted b (nth E j))) (s .1) ∙ new-inverted inv i gs (nth E j)
+      ∙ seen-has inv gs (nth E j) (m .before j (s .0)))
       ∙ f gs (subst (λ q. Met inv E q gs) (sym (s .2)) m) ∙ ap (λ q. drop q E) (s .2)
   fresh-step k n gs (entry j i) xs (inr s) h m f =
       let lt : k < length E = omega arith in

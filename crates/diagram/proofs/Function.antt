@@ -42,7 +42,8 @@ module _ (inv : Bool) (n : ℕ) (D : Diagram) (good : Good inv n D) where
   pub node-level : (p r : ℕ) → T (from inv D p r) → ltb r 2 ≡ false → nodeAt inv D r .level < n
   node-level p r t e =
       let c = nodeAt inv D r in
-      ltb→lt (c .level) n (and-l (ltb (c .level) n) (later inv D (c .level) (c .low) && later inv D (c .level) (c .high)) (node-good p r t e))
+      ltb→lt (c .level) n (and-l (ltb (c .level) n) (later inv D (c .level) (c .low) && later inv D (c .level) (c .high))
+      (node-good p r t e))
 
   pub node-edge : (p r : ℕ) → T (from inv D p r) → ltb r 2 ≡ false → (b : Bool)
       → T (from inv D (suc (nodeAt inv D r .level)) (edge b (nodeAt inv D r)))
@@ -53,13 +54,15 @@ module _ (inv : Bool) (n : ℕ) (D : Diagram) (good : Good inv n D) where
       step : (b : Bool)
           → T (later inv D (nodeAt inv D r .level) (nodeAt inv D r .low) && later inv D (nodeAt inv D r .level) (nodeAt inv D r .high))
           → T (later inv D (nodeAt inv D r .level) (edge b (nodeAt inv D r)))
-      step true s = and-r (later inv D (nodeAt inv D r .level) (nodeAt inv D r .low)) (later inv D (nodeAt inv D r .level) (nodeAt inv D r .high)) s
-      step false s = and-l (later inv D (nodeAt inv D r .level) (nodeAt inv D r .low)) (later inv D (nodeAt inv D r .level) (nodeAt inv D r .high)) s
+      step true s =
+          and-r (later inv D (nodeAt inv D r .level) (nodeAt inv D r .low)) (later inv D (nodeAt inv D r .level) (nodeAt inv D r .high)) s
+      step false s =
+          and-l (later inv D (nodeAt inv D r .level) (nodeAt inv D r .low)) (later inv D (nodeAt inv D r .level) (nodeAt inv D r .high)) s
 
   -- from the last level on there are only constants
   constant-last : (r : ℕ) → T (from inv D n r) → ltb r 2 ≡ true
   constant-last r t =
-      split (ltb r 2) (λ e. e) (λ e. absurd (lt-absurd (node-level n r t e) (from-reached inv D n r t e .place)))
+      split (ltb r 2) (λ e. e) (λ e. absurd (lt-absurd (node-level n r t e) (from-reached inv D n r t e .deep)))
     where
       lt-absurd : nodeAt inv D r .level < n → n ≤ nodeAt inv D r .level → ⊥
       lt-absurd h k = omega arith
@@ -70,7 +73,7 @@ module _ (inv : Bool) (n : ℕ) (D : Diagram) (good : Good inv n D) where
       split (ltb r 2) (from-constant inv D (suc p) r)
       (λ q. let w = from-reached inv D p r t q in
       let z : eqb (nodeAt inv D r .level) p ≡ false = rw q at e in
-      from-node inv D (suc p) r (w .own) (above (w .place) z))
+      from-node inv D (suc p) r (w .own) (above (w .deep) z))
     where
       above : p ≤ nodeAt inv D r .level → eqb (nodeAt inv D r .level) p ≡ false → p < nodeAt inv D r .level
       above h z = split (ltb p (nodeAt inv D r .level)) (λ q. ltb→lt p (nodeAt inv D r .level) (to-T q))
@@ -111,7 +114,8 @@ function-gives inv n D good a (suc d) p r zero e h t = absurd (not-suc-le-zero h
 function-gives inv n D good a (suc d) p r (suc k) e h t =
     split (here inv D p r)
     (λ q. let c = nodeAt inv D r in
-    let big : ltb r 2 ≡ false = split (ltb r 2) (λ z. absurd-T (subst (λ (b : Bool). T (not b && eqb (c .level) p)) z (to-T q)) refl) (λ z. z) in
+    let big : ltb r 2 ≡ false = split (ltb r 2) (λ z. absurd-T (subst (λ (b : Bool). T (not b && eqb (c .level) p)) z (to-T q)) refl)
+    (λ z. z) in
     let lev : c .level ≡ p = eqb→eq (c .level) p (and-r (not (ltb r 2)) (eqb (c .level) p) (to-T q)) in
     let down : gives inv D a k (edge (a p) c) ≡ at (suc p) a (function inv D d (suc p) (edge (a p) c)) =
     function-gives inv n D good a d (suc p) (edge (a p) c) k (omega arith) (le-of-suc-le-suc h)

@@ -142,7 +142,8 @@ pub keeps-fill : (inv : Bool) (d : ℕ) (fs : List (Tree Row d)) → KeepsAll fs
 keeps-fill inv zero fs = rw fill-zero (settled-keeps fs)
 keeps-fill inv (suc d) fs =
     let es = level inv [] fs .entries in
-    rw fill-suc (level-keeps inv [] fs (pairs (fill inv d (halves es))) (keeps-pairs es (fill inv d (halves es)) (keeps-fill inv d (halves es))))
+    rw fill-suc (level-keeps inv [] fs (pairs (fill inv d (halves es)))
+    (keeps-pairs es (fill inv d (halves es)) (keeps-fill inv d (halves es))))
 
 pub kept-fill : (inv : Bool) (d : ℕ) (fs : List (Tree Row d)) (i : ℕ) (f₀ : Tree Row d) (t₀ : Tree Bool d) → i < length fs →
     Keeps (getD fs i f₀) (getD (fill inv d fs) i t₀)

@@ -12,14 +12,16 @@ use Rattle.diagram.specs.Diagram.{inverts}
 use Rattle.diagram.specs.Network.{depends, normal, classes, reference, refer}
 use Rattle.diagram.proofs.Bools.{split, to-T, to-not, absurd-T}
 use Rattle.diagram.proofs.Lists.{has-map, map-has}
-use Rattle.diagram.proofs.Tree.{same-equality, same→eq, has-halves, half-inverted, first-half, depends-normal, normal-inverted, normal-normal}
+use Rattle.diagram.proofs.Tree.{same-equality, same→eq, has-halves, half-inverted, first-half, depends-normal, normal-inverted}
+use Rattle.diagram.proofs.Tree.{normal-normal}
 use Rattle.diagram.proofs.Classes.{has-classes, classes-has}
 use Rattle.diagram.proofs.Reference.{inverts-reference}
 
 -- a function that doesn't depend on its top variable has equal halves
 pub half-equal : {d : ℕ} (b : Bool) (t : Tree Bool (suc d)) → depends t ≡ false → half b t ≡ half false t
 half-equal false t e = refl
-half-equal true t e = sym (same→eq (half false t) (half true t) (split (same (half false t) (half true t)) to-T (λ q. absurd-T (to-not q) e)))
+half-equal true t e =
+    sym (same→eq (half false t) (half true t) (split (same (half false t) (half true t)) to-T (λ q. absurd-T (to-not q) e)))
 
 -- a function whose class is among those of ts
 abbrev pub Known : {d : ℕ} → Bool → List (Tree Bool d) → Tree Bool d → Type 0
@@ -88,10 +90,12 @@ inverts-digit true false = refl
 inverts-digit false b = refl
 
 -- the low bit of a reference is the all-zero row of what it refers to
-pub refer-inverts : (inv : Bool) (d base : ℕ) (ts : List (Tree Bool d)) (t : Tree Bool d) → inverts inv (refer inv d base ts t) ≡ (inv && first t)
+pub refer-inverts : (inv : Bool) (d base : ℕ) (ts : List (Tree Bool d)) (t : Tree Bool d)
+    → inverts inv (refer inv d base ts t) ≡ (inv && first t)
 refer-inverts inv zero base ts t = ap (inverts inv) (refer-leaf inv base ts t) ∙ inverts-digit inv (first t)
 refer-inverts inv (suc d) base ts t =
     split (depends t)
-    (λ e. ap (inverts inv) (refer-depends inv base ts t e) ∙ inverts-reference inv (base + index same (normal inv t) (classes inv ts)) (first t))
+    (λ e. ap (inverts inv) (refer-depends inv base ts t e) ∙ inverts-reference inv (base + index same (normal inv t) (classes inv ts))
+    (first t))
     (λ e. ap (inverts inv) (refer-skips inv base ts t e) ∙ refer-inverts inv d (base + length (classes inv ts)) (halves ts) (half false t)
     ∙ ap (λ b. inv && b) (first-half t))

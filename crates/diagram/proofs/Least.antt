@@ -17,7 +17,8 @@ use Rattle.diagram.specs.Diagram.{Node, Diagram, edge, target, inverts, 
 use Rattle.diagram.specs.Network.{depends, normal, classes, count}
 use Rattle.diagram.proofs.Bools.{split, of-T, to-T, to-not, absurd-T, and-r, or-r, or-cases}
 use Rattle.diagram.proofs.Lists.{pigeonhole, has-here, keep-length}
-use Rattle.diagram.proofs.Tree.{same-equality, same→eq, same-refl, half-inverted, inverted-inverted, inverted-false, depends-inverted, normal-inverted}
+use Rattle.diagram.proofs.Tree.{same-equality, same→eq, same-refl, half-inverted, inverted-inverted, inverted-false}
+use Rattle.diagram.proofs.Tree.{depends-inverted, normal-inverted}
 use Rattle.diagram.proofs.Reference.{target-lt, inverts-inv, from, from-reached}
 use Rattle.diagram.proofs.Classes.{classes-has, classes-distinct}
 use Rattle.diagram.proofs.Count.{total, count-total}
@@ -71,7 +72,8 @@ function-past inv D d p r e = rw e
 
 -- what it means that a reference is to a node at p
 here-big : (inv : Bool) (D : Diagram) (p r : ℕ) → here inv D p r ≡ true → ltb r 2 ≡ false
-here-big inv D p r e = split (ltb r 2) (λ z. absurd-T (subst (λ (b : Bool). T (not b && eqb (nodeAt inv D r .level) p)) z (to-T e)) refl) (λ z. z)
+here-big inv D p r e =
+    split (ltb r 2) (λ z. absurd-T (subst (λ (b : Bool). T (not b && eqb (nodeAt inv D r .level) p)) z (to-T e)) refl) (λ z. z)
 
 here-level : (inv : Bool) (D : Diagram) (p r : ℕ) → here inv D p r ≡ true → T (eqb (nodeAt inv D r .level) p)
 here-level inv D p r e = and-r (not (ltb r 2)) (eqb (nodeAt inv D r .level) p) (to-T e)
@@ -144,11 +146,14 @@ class-standing inv D d p u w t =
     let big = here-big inv D p r e in
     let g = nodeFunction inv D d p c in
     let same-class : normal inv g ≡ normal inv u =
-    sym (ap (normal inv) (w .computed ∙ ap (inverted (inv && w .turned)) (function-here inv D d p r e ∙ ap (λ i. inverted i g) (inverts-inv inv r)))
+    sym (ap (normal inv) (w .computed ∙ ap (inverted (inv && w .turned))
+    (function-here inv D d p r e ∙ ap (λ i. inverted i g) (inverts-inv inv r)))
     ∙ normal-inverted inv (w .turned) (inverted (inv && inverts inv r) g) ∙ normal-inverted inv (inverts inv r) g) in
     subst (λ x. T (has same x (standing inv D d p))) same-class
-    (has-standing (λ c. normal inv (nodeFunction inv D d p c)) (λ c. eqb (c .level) p) (D .nodes) (target inv r) (record { level = 0; low = 0; high = 0 })
-    (target-lt inv r (length (D .nodes)) (nltb→le r 2 (to-not big)) (from-reached inv D p r (w .reached) big .own)) (here-level inv D p r e)))
+    (has-standing (λ c. normal inv (nodeFunction inv D d p c)) (λ c. eqb (c .level) p) (D .nodes) (target inv r)
+    (record { level = 0; low = 0; high = 0 })
+    (target-lt inv r (length (D .nodes)) (nltb→le r 2 (to-not big)) (from-reached inv D p r (w .reached) big .own))
+    (here-level inv D p r e)))
     (λ e. absurd (depends-both (inv && w .turned) (function inv D d (suc p) (w .ref))
     (subst (λ x. T (depends x)) (w .computed ∙ ap (inverted (inv && w .turned)) (function-past inv D d p (w .ref) e)) t)))
 
@@ -171,7 +176,8 @@ levels-split p (c ∷ cs) =
     split (eqb (c .level) p)
     (λ e. let q : c .level ≡ p = eqb→eq (c .level) p (to-T e) in
     let a : leb p (c .level) ≡ true = of-T (le→leb p (c .level) (omega arith)) in
-    let b : leb (suc p) (c .level) ≡ false = split (leb (suc p) (c .level)) (λ z. let h = leb→le (suc p) (c .level) (to-T z) in absurd (omega arith)) (λ z. z) in
+    let b : leb (suc p) (c .level) ≡ false = split (leb (suc p) (c .level)) (λ z. let h = leb→le (suc p) (c .level) (to-T z) in
+    absurd (omega arith)) (λ z. z) in
     rw (e, a, b) (omega (arith, levels-split p cs)))
     (λ e. split (leb (suc p) (c .level))
     (λ b. let h = leb→le (suc p) (c .level) (to-T b) in

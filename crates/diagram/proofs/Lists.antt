@@ -97,7 +97,8 @@ module _ {A : Type 0} (eq : A → A → Bool) (E : Equality eq) where
   pub has-append-l : (x : A) (xs ys : List A) → T (has eq x xs) → T (has eq x (xs ++ ys))
   has-append-l x [] ys h = absurd h
   has-append-l x (z ∷ xs) ys h =
-      ⊎-elim (λ s. or-l (eq x z) (has eq x (xs ++ ys)) s) (λ s. or-r (eq x z) (has eq x (xs ++ ys)) (has-append-l x xs ys s)) (or-cases (eq x z) (has eq x xs) h)
+      ⊎-elim (λ s. or-l (eq x z) (has eq x (xs ++ ys)) s) (λ s. or-r (eq x z) (has eq x (xs ++ ys)) (has-append-l x xs ys s))
+      (or-cases (eq x z) (has eq x xs) h)
 
   pub has-append-r : (x : A) (xs ys : List A) → T (has eq x ys) → T (has eq x (xs ++ ys))
   has-append-r x [] ys h = h
@@ -135,9 +136,11 @@ module _ {A : Type 0} (eq : A → A → Bool) (E : Equality eq) where
   without-has y x [] h n = h
   without-has y x (z ∷ zs) h n =
       split (eq x z)
-      (λ e. rw e (without-has y x zs (⊎-elim (λ s. absurd-T (eq-same (E .sound x z (to-T e) ∙ sym (E .sound y z s))) n) (λ s. s) (or-cases (eq y z) (has eq y zs) h)) n))
+      (λ e. rw e (without-has y x zs (⊎-elim (λ s. absurd-T (eq-same (E .sound x z (to-T e) ∙ sym (E .sound y z s))) n) (λ s. s)
+      (or-cases (eq y z) (has eq y zs) h)) n))
       (λ e. rw e
-      (⊎-elim (λ s. or-l (eq y z) (has eq y (without eq x zs)) s) (λ s. or-r (eq y z) (has eq y (without eq x zs)) (without-has y x zs s n)) (or-cases (eq y z) (has eq y zs) h)))
+      (⊎-elim (λ s. or-l (eq y z) (has eq y (without eq x zs)) s) (λ s. or-r (eq y z) (has eq y (without eq x zs)) (without-has y x zs s n))
+      (or-cases (eq y z) (has eq y zs) h)))
 
   pub has-without : (y x : A) (xs : List A) → T (has eq y (without eq x xs)) → T (has eq y xs) × (eq x y ≡ false)
   has-without y x [] h = absurd h
@@ -152,7 +155,8 @@ module _ {A : Type 0} (eq : A → A → Bool) (E : Equality eq) where
   pub without-none : (x : A) (xs : List A) → has eq x xs ≡ false → without eq x xs ≡ xs
   without-none x [] n = refl
   without-none x (y ∷ ys) n =
-      split (eq x y) (λ e. absurd-T (or-l (eq x y) (has eq x ys) (to-T e)) n) (λ e. rw e (ap (λ (l : List A). y ∷ l) (without-none x ys (rw e at n))))
+      split (eq x y) (λ e. absurd-T (or-l (eq x y) (has eq x ys) (to-T e)) n)
+      (λ e. rw e (ap (λ (l : List A). y ∷ l) (without-none x ys (rw e at n))))
 
   pub without-le : (x : A) (xs : List A) → length (without eq x xs) ≤ length xs
   without-le x [] = zero-le
@@ -201,7 +205,8 @@ module _ {A : Type 0} (eq : A → A → Bool) (E : Equality eq) where
   distinct-firsts [] = tt
   distinct-firsts (x ∷ xs) =
       and-T (not (has eq x (without eq x (firsts eq xs)))) (distinct eq (without eq x (firsts eq xs)))
-      (split (has eq x (without eq x (firsts eq xs))) (λ e. absurd-T (E .self x) (has-without x x (firsts eq xs) (to-T e) .1)) (λ e. to-not e))
+      (split (has eq x (without eq x (firsts eq xs))) (λ e. absurd-T (E .self x) (has-without x x (firsts eq xs) (to-T e) .1))
+      (λ e. to-not e))
       (distinct-without x (firsts eq xs) (distinct-firsts xs))
 
   pub firsts-length : (xs : List A) → length (firsts eq xs) ≤ length xs
@@ -215,7 +220,8 @@ module _ {A : Type 0} (eq : A → A → Bool) (E : Equality eq) where
       let rest : length xs ≤ length (without eq x ys) =
       pigeonhole xs (without eq x ys) (apart-rest x xs t)
       (λ y h. without-has y x ys (f y (or-r (eq y x) (has eq y xs) h))
-      (split (eq x y) (λ q. absurd-T (subst (λ (z : A). T (has eq z xs)) (sym (E .sound x y (to-T q))) h) (apart-first x xs t)) (λ q. q))) in
+      (split (eq x y) (λ q. absurd-T (subst (λ (z : A). T (has eq z xs)) (sym (E .sound x y (to-T q))) h) (apart-first x xs t))
+      (λ q. q))) in
       le-trans (suc-le-suc rest) (without-lt x ys (f x (has-here x xs)))
 
 pub getD-map : {A B : Type 0} (f : A → B) (xs : List A) (i : ℕ) (d : A) (e : B) → i < length xs
@@ -225,7 +231,8 @@ getD-map f (x ∷ xs) zero d e h = refl
 getD-map f (x ∷ xs) (suc i) d e h = getD-map f xs i d e (le-of-suc-le-suc h)
 
 -- where f x stands in a mapped list, some x stands in the list
-pub map-has : {A B : Type 0} (eqA : A → A → Bool) (EA : Equality eqA) (eqB : B → B → Bool) (EB : Equality eqB) (f : A → B) (y : B) (xs : List A)
+pub map-has : {A B : Type 0} (eqA : A → A → Bool) (EA : Equality eqA) (eqB : B → B → Bool) (EB : Equality eqB) (f : A → B) (y : B)
+    (xs : List A)
     → T (has eqB y (map f xs)) → (x : A) × T (has eqA x xs) × (f x ≡ y)
 map-has eqA EA eqB EB f y [] h = absurd h
 map-has eqA EA eqB EB f y (x ∷ xs) h =
@@ -240,7 +247,8 @@ all-map eq E q f [] g = tt
 all-map eq E q f (x ∷ xs) g =
     and-T (q (f x)) (all q (map f xs)) (g x (has-here eq E x xs)) (all-map eq E q f xs (λ y h. g y (or-r (eq y x) (has eq y xs) h)))
 
-pub has-map : {A B : Type 0} (eqA : A → A → Bool) (EA : Equality eqA) (eqB : B → B → Bool) (EB : Equality eqB) (f : A → B) (x : A) (xs : List A)
+pub has-map : {A B : Type 0} (eqA : A → A → Bool) (EA : Equality eqA) (eqB : B → B → Bool) (EB : Equality eqB) (f : A → B) (x : A)
+    (xs : List A)
     → T (has eqA x xs) → T (has eqB (f x) (map f xs))
 has-map eqA EA eqB EB f x [] h = absurd h
 has-map eqA EA eqB EB f x (y ∷ ys) h =

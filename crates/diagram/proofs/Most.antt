@@ -83,7 +83,8 @@ module _ (f : ℕ → ℕ) where
       split (ltb (f v) (f x))
       (λ e. let l : f v < f x = ltb→lt (f v) (f x) (to-T e) in
       let top : f x ≤ f (mostOf f x ws) = mostOf-most x ws x (has-here eqb eqb-equality x ws) in
-      rw e (⊎-elim (λ s. let q = ap f (eqb→eq w v s) in omega arith) (λ s. mostOf-most x ws w s) (or-cases (eqb w v) (has eqb w (x ∷ ws)) h)))
+      rw e (⊎-elim (λ s. let q = ap f (eqb→eq w v s) in omega arith) (λ s. mostOf-most x ws w s)
+      (or-cases (eqb w v) (has eqb w (x ∷ ws)) h)))
       (λ e. let l : f x ≤ f v = nltb→le (f v) (f x) (to-not e) in
       let top : f v ≤ f (mostOf f v ws) = mostOf-most v ws v (has-here eqb eqb-equality v ws) in
       rw e (⊎-elim (λ s. let q = ap f (eqb→eq w v s) in omega arith)

@@ -68,7 +68,8 @@ unfolding moved
 moved-order n v p order o h =
     let rest : List ℕ = without eqb v order in
     let e : take p rest ++ drop p rest ≡ rest = take-append-drop p rest in
-    let l : suc (length rest) ≡ length order = without-length eqb eqb-equality v order (order-distinct n order o) (every-variable n order o v h) in
+    let l : suc (length rest) ≡ length order = without-length eqb eqb-equality v order (order-distinct n order o)
+    (every-variable n order o v h) in
     to-order n (take p rest ++ v ∷ drop p rest)
     (insert-length v (take p rest) (drop p rest) ∙ ap (λ (xs : List ℕ). suc (length xs)) e ∙ l ∙ order-length n order o)
     (insert-all (λ w. ltb w n) v (take p rest) (drop p rest) (lt→ltb v n h)
@@ -82,7 +83,7 @@ moved-order n v p order o h =
 pub moved-beside : (n v p : ℕ) (order : List ℕ) → T (isOrder n order) → v < n → Beside n v order (moved v p order)
 moved-beside n v p order o h = record { valid = moved-order n v p order o h; others = without-moved v p order }
 
--- what stands beside a list stands beside each that differs from it in the place of v
+-- what stands beside a list stands beside each that differs from it in the level of v
 pub beside-same : {n v : ℕ} {order order′ other : List ℕ} → without eqb v order ≡ without eqb v order′
     → Beside n v order other → Beside n v order′ other
 beside-same e b = record { valid = b .valid; others = b .others ∙ e }
@@ -90,9 +91,6 @@ beside-same e b = record { valid = b .valid; others = b .others ∙ e }
 pub beside-from : (v q : ℕ) (order : List ℕ) {n : ℕ} {other : List ℕ} → Beside n v (moved v q order) other
     → Beside n v order other
 beside-from v q order b = beside-same (without-moved v q order) b
-
-pub beside-to : (v q : ℕ) (order : List ℕ) {n : ℕ} {other : List ℕ} → Beside n v order other → Beside n v (moved v q order) other
-beside-to v q order b = beside-same (sym (without-moved v q order)) b
 
 -- v moved to where it stands
 pub moved-self : (v : ℕ) (order : List ℕ) → T (distinct eqb order) → T (has eqb v order)

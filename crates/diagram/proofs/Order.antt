@@ -12,7 +12,7 @@ use Rattle.diagram.specs.Tree.{at}
 use Rattle.diagram.specs.Order.{isOrder, rowUnder, behind}
 use Rattle.diagram.specs.Table.{Table, reordered}
 use Rattle.diagram.proofs.Bools.{and-T, and-l, and-r}
-use Rattle.diagram.proofs.Lists.{eqb-equality, all-at, all-has, index-lt, getD-index, index-getD}
+use Rattle.diagram.proofs.Lists.{eqb-equality, all-at, index-lt, getD-index, index-getD}
 use Rattle.diagram.proofs.Numbers.{none-missing}
 use Rattle.diagram.proofs.Bits.{number-lt, bit-number, number-bit, number-cong, at-drawn}
 
@@ -35,15 +35,14 @@ module _ (n : ℕ) (order : List ℕ) (o : T (isOrder n order)) where
   pub order-all : T (all (λ v. ltb v n) order)
   unfolding isOrder
   order-all =
-      and-l (all (λ v. ltb v n) order) (distinct eqb order) (and-r (eqb (length order) n) (all (λ v. ltb v n) order && distinct eqb order) o)
+      and-l (all (λ v. ltb v n) order) (distinct eqb order)
+      (and-r (eqb (length order) n) (all (λ v. ltb v n) order && distinct eqb order) o)
 
   pub order-distinct : T (distinct eqb order)
   unfolding isOrder
   order-distinct =
-      and-r (all (λ v. ltb v n) order) (distinct eqb order) (and-r (eqb (length order) n) (all (λ v. ltb v n) order && distinct eqb order) o)
-
-  pub order-below : (v : ℕ) → T (has eqb v order) → v < n
-  order-below v h = ltb→lt v n (all-has eqb eqb-equality (λ w. ltb w n) order order-all v h)
+      and-r (all (λ v. ltb v n) order) (distinct eqb order)
+      (and-r (eqb (length order) n) (all (λ v. ltb v n) order && distinct eqb order) o)
 
   pub order-at : (p : ℕ) → p < n → getD order p 0 < n
   order-at p h = ltb→lt (getD order p 0) n (all-at (λ v. ltb v n) order order-all p 0 (omega (arith, order-length)))

@@ -2,7 +2,7 @@
 -- Assumes nothing.
 use mathlib.Core.Path.{_≡_, refl, sym, ap, _∙_, subst}
 use mathlib.Core.Bool.{false, not, cond}
-use mathlib.Core.List.{List, _∷_}
+use mathlib.Core.List.{List}
 use Prim.Native.Nat.{ℕ, zero, suc, _+_, _*_, _/_, _≤_, _<_, min}
 use native.Mathlib.Nat.{le-refl, le-of-lt, le-trans, le-antisymm, min-le-right, mul-le-mul-right, div-mul-le-self, lt-div-mul-add}
 use native.Mathlib.Omega.{arith}
@@ -11,7 +11,7 @@ use lib.ListN.{length}
 use Rattle.diagram.specs.Lists.{all, has, distinct, upTo}
 use Rattle.diagram.specs.Order.{isOrder}
 use Rattle.diagram.specs.Table.{Table, cost}
-use Rattle.diagram.specs.Sift.{sift, nodesOf, Pass, unsifted, next, turn, start, sifting, pass, allowed}
+use Rattle.diagram.specs.Sift.{nodesOf, Pass, unsifted, next, turn, start, sifting, pass, allowed}
 use Rattle.diagram.specs.Demands.{SiftedLeast, orderAfter, TurnsLeast}
 use Rattle.diagram.proofs.Bools.{split, of-not, to-T, to-not, and-T}
 use Rattle.diagram.proofs.Lists.{eqb-equality, has-keep, keep-has, index-lt, pigeonhole}
@@ -23,14 +23,6 @@ use Rattle.diagram.proofs.Sift.{sift-order, sifted}
 unfoldable pub afterTurns : Table → ℕ → List ℕ → Pass
 afterTurns t zero order = start order
 afterTurns t (suc k) order = turn t (afterTurns t k order)
-
-pub turn-order : (t : Table) (s : Pass) → turn t s .order ≡ sift t (next t s) (s .order)
-unfolding turn
-turn-order t s = refl
-
-pub turn-sifted : (t : Table) (s : Pass) → turn t s .sifted ≡ next t s ∷ s .sifted
-unfolding turn
-turn-sifted t s = refl
 
 pub turn-tried : (t : Table) (s : Pass) → turn t s .tried ≡ s .tried + t .n
 unfolding turn
@@ -87,7 +79,8 @@ module _ (t : Table) (s : Pass) (h : length (s .sifted) < t .n) where
   next-left = most-has (nodesOf t (s .order)) (unsifted t s) (some-left t s h)
 
   pub next-below : next t s < t .n
-  next-below = upTo-lt (next t s) (t .n) (keep-has eqb eqb-equality (λ v. not (has eqb v (s .sifted))) (next t s) (upTo (t .n)) next-left .0)
+  next-below =
+      upTo-lt (next t s) (t .n) (keep-has eqb eqb-equality (λ v. not (has eqb v (s .sifted))) (next t s) (upTo (t .n)) next-left .0)
 
   pub next-unsifted : has eqb (next t s) (s .sifted) ≡ false
   next-unsifted = of-not (keep-has eqb eqb-equality (λ v. not (has eqb v (s .sifted))) (next t s) (upTo (t .n)) next-left .1)
@@ -126,10 +119,6 @@ after-going t order o (suc k) h =
 
 pub turn-below : (t : Table) (order : List ℕ) (k : ℕ) → k < t .n → next t (afterTurns t k order) < t .n
 turn-below t order k h = next-below t (afterTurns t k order) (omega (arith, after-sifted t k order))
-
-pub turn-unsifted : (t : Table) (order : List ℕ) (k : ℕ) → k < t .n
-    → has eqb (next t (afterTurns t k order)) (afterTurns t k order .sifted) ≡ false
-turn-unsifted t order k h = next-unsifted t (afterTurns t k order) (omega (arith, after-sifted t k order))
 
 pub turn-least : (t : Table) (order : List ℕ) (k : ℕ) → k < t .n
     → SiftedLeast t (next t (afterTurns t k order)) (afterTurns t (suc k) order .order) (cost t (afterTurns t (suc k) order .order))

@@ -45,19 +45,21 @@ abbrev pub from : Bool → Diagram → ℕ → ℕ → Bool
 from inv D p r = ltb r 2 || (refers inv D r && leb p (nodeAt inv D r .level))
 
 pub from-node : (inv : Bool) (D : Diagram) (p r : ℕ) → T (refers inv D r) → p ≤ nodeAt inv D r .level → T (from inv D p r)
-from-node inv D p r s h = or-r (ltb r 2) (refers inv D r && leb p (nodeAt inv D r .level)) (and-T (refers inv D r) (leb p (nodeAt inv D r .level)) s (le→leb p (nodeAt inv D r .level) h))
+from-node inv D p r s h =
+    or-r (ltb r 2) (refers inv D r && leb p (nodeAt inv D r .level))
+    (and-T (refers inv D r) (leb p (nodeAt inv D r .level)) s (le→leb p (nodeAt inv D r .level) h))
 
 -- what a reference from p on is, if no constant
 pub record Reached (inv : Bool) (D : Diagram) (p r : ℕ) : Type 0 where
   pub own : T (refers inv D r)
-  pub place : p ≤ nodeAt inv D r .level
+  pub deep : p ≤ nodeAt inv D r .level
 
 pub from-reached : (inv : Bool) (D : Diagram) (p r : ℕ) → T (from inv D p r) → ltb r 2 ≡ false → Reached inv D p r
 from-reached inv D p r t e =
     let s : T (refers inv D r && leb p (nodeAt inv D r .level)) = rw e at t in
     record {
       own = and-l (refers inv D r) (leb p (nodeAt inv D r .level)) s;
-      place = leb→le p (nodeAt inv D r .level) (and-r (refers inv D r) (leb p (nodeAt inv D r .level)) s);
+      deep = leb→le p (nodeAt inv D r .level) (and-r (refers inv D r) (leb p (nodeAt inv D r .level)) s);
     }
 
 pub from-constant : (inv : Bool) (D : Diagram) (p r : ℕ) → ltb r 2 ≡ true → T (from inv D p r)
@@ -66,4 +68,4 @@ from-constant inv D p r e = rw e tt
 pub from-sooner : (inv : Bool) (D : Diagram) (p q r : ℕ) → p ≤ q → T (from inv D q r) → T (from inv D p r)
 from-sooner inv D p q r h t =
     split (ltb r 2) (from-constant inv D p r)
-    (λ e. let w = from-reached inv D q r t e in from-node inv D p r (w .own) (omega (arith, w .place)))
+    (λ e. let w = from-reached inv D q r t e in from-node inv D p r (w .own) (omega (arith, w .deep)))

@@ -11,7 +11,7 @@ use Rattle.diagram.specs.Lists.{digit, index}
 use Rattle.diagram.specs.Tree.{Tree, leaf, half, halves, full, first, same, inverted}
 use Rattle.diagram.specs.Fill.{Link, const, entry, follow}
 use Rattle.diagram.specs.Network.{depends, normal, classes, reference, refer}
-use Rattle.diagram.specs.Trace.{opposite, linkRef}
+use Rattle.diagram.specs.inner.Trace.{opposite, linkRef}
 use Rattle.diagram.proofs.Bools.{split}
 use Rattle.diagram.proofs.Tree.{same-self, inverted-false, half-inverted, first-inverted, depends-inverted, normal-inverted}
 use Rattle.diagram.proofs.Lists.{getD-map}
@@ -39,7 +39,8 @@ opposite-digit false = refl
 pub refer-full : (inv : Bool) (d base : ℕ) (ts : List (Tree Bool d)) (v : Bool) → refer inv d base ts (full v d) ≡ digit v
 refer-full inv zero base ts v = refer-leaf inv base ts (leaf v)
 refer-full inv (suc d) base ts v =
-    refer-skips inv base ts (full v (suc d)) (ap not (same-self (full v d))) ∙ refer-full inv d (base + length (classes inv ts)) (halves ts) v
+    refer-skips inv base ts (full v (suc d)) (ap not (same-self (full v d))) ∙ refer-full inv d (base + length (classes inv ts))
+    (halves ts) v
 
 refer-inverse : (d base : ℕ) (ts : List (Tree Bool d)) (t : Tree Bool d)
     → refer true d base ts (inverted true t) ≡ opposite true (refer true d base ts t)

@@ -18,8 +18,10 @@ use Rattle.diagram.proofs.Bools.{split, to-T, to-not, and-T, flip-flip}
 use Rattle.diagram.proofs.Lists.{index-lt, getD-index, all-map, all-append, has-getD, getD-map}
 use Rattle.diagram.proofs.Tree.{same-equality, half-inverted, first-half, at-inverted, first-normal}
 use Rattle.diagram.proofs.Classes.{classes-normal}
-use Rattle.diagram.proofs.Known.{Known, known-of, known-normal, known-half, known-class, class-known, refer-depends, refer-skips, refer-leaf, refer-inverts, half-equal}
-use Rattle.diagram.proofs.Reference.{target-reference, inverts-reference, reference-big, reference-largest, not-below, from, from-node, from-reached, from-sooner}
+use Rattle.diagram.proofs.Known.{Known, known-of, known-normal, known-half, known-class, class-known, refer-depends, refer-skips}
+use Rattle.diagram.proofs.Known.{refer-leaf, refer-inverts, half-equal}
+use Rattle.diagram.proofs.Reference.{target-reference, inverts-reference, reference-big, reference-largest, not-below, from}
+use Rattle.diagram.proofs.Reference.{from-node, from-reached, from-sooner}
 
 -- the diagram's nodes are `base` others and then those of the levels from p on
 pub record Holds (inv : Bool) (D : Diagram) (d p base : ℕ) (ts : List (Tree Bool d)) : Type 0 where
@@ -35,11 +37,14 @@ holds-below inv D d p base ts w =
     record {
       before = w .before ++ own;
       split-at = w .split-at ∙ sym (append-assoc (w .before) own (nodes inv d (suc p) (base + length (classes inv ts)) (halves ts)));
-      depth = length-append (w .before) own ∙ ap₂ _+_ (w .depth) (length-map (classes inv ts) (nodeOf inv p (base + length (classes inv ts)) (halves ts)));
+      depth =
+          length-append (w .before) own ∙ ap₂ _+_ (w .depth)
+          (length-map (classes inv ts) (nodeOf inv p (base + length (classes inv ts)) (halves ts)));
     }
 
 -- a class's node, found by its index
-module _ (inv : Bool) (D : Diagram) (d p base : ℕ) (ts : List (Tree Bool (suc d))) (w : Holds inv D (suc d) p base ts) (x : Tree Bool (suc d)) (h : T (has same x (classes inv ts))) (e : Node) where
+module _ (inv : Bool) (D : Diagram) (d p base : ℕ) (ts : List (Tree Bool (suc d))) (w : Holds inv D (suc d) p base ts)
+    (x : Tree Bool (suc d)) (h : T (has same x (classes inv ts))) (e : Node) where
   pub class-index : base + index same x (classes inv ts) < length (D .nodes)
   unfolding nodes
   class-index =
@@ -48,7 +53,14 @@ module _ (inv : Bool) (D : Diagram) (d p base : ℕ) (ts : List (Tree Bool (suc 
       let i : index same x (classes inv ts) < length (classes inv ts) = index-lt same same-equality x (classes inv ts) h in
       let l : length (D .nodes) ≡ length (w .before) + length (own ++ nodes inv d (suc p) b (halves ts)) =
       ap length (w .split-at) ∙ length-append (w .before) (own ++ nodes inv d (suc p) b (halves ts)) in
-      omega (arith, l, i, w .depth, length-append own (nodes inv d (suc p) b (halves ts)), length-map (classes inv ts) (nodeOf inv p b (halves ts)))
+      omega (
+        arith,
+        l,
+        i,
+        w .depth,
+        length-append own (nodes inv d (suc p) b (halves ts)),
+        length-map (classes inv ts) (nodeOf inv p b (halves ts)),
+      )
 
   pub class-node : getD (D .nodes) (base + index same x (classes inv ts)) e ≡ nodeOf inv p (base + length (classes inv ts)) (halves ts) x
   unfolding nodes
@@ -99,7 +111,8 @@ at-back inv p a t =
 -- one step down, at a function that depends on its top variable
 gives-class : (inv : Bool) (D : Diagram) (a : ℕ → Bool) (d p base : ℕ) (ts : List (Tree Bool (suc d))) (t : Tree Bool (suc d))
     → Holds inv D (suc d) p base ts → Known inv ts t → (k : ℕ) → depends t ≡ true
-    → gives inv D a k (refer inv d (base + length (classes inv ts)) (halves ts) (half (a p) (normal inv t))) ≡ at (suc p) a (half (a p) (normal inv t))
+    → gives inv D a k (refer inv d (base + length (classes inv ts)) (halves ts) (half (a p) (normal inv t))) ≡ at (suc p) a
+    (half (a p) (normal inv t))
     → gives inv D a (suc k) (refer inv (suc d) base ts t) ≡ at p a t
 gives-class inv D a d p base ts t w q k e below =
     let j = base + index same (normal inv t) (classes inv ts) in
@@ -110,7 +123,8 @@ gives-class inv D a d p base ts t w q k e below =
     ∙ class-node inv D d p base ts w (normal inv t) (known-class inv ts t q e) (record { level = 0; low = 0; high = 0 }) in
     ap (gives inv D a (suc k)) (refer-depends inv base ts t e)
     ∙ gives-node inv D a k r c (reference-big inv j (first t)) found
-    ∙ ap₂ (λ (i : Bool) (s : ℕ). flip i (gives inv D a k s)) (inverts-reference inv j (first t)) (edge-nodeOf inv (a p) p (base + length (classes inv ts)) (halves ts) (normal inv t))
+    ∙ ap₂ (λ (i : Bool) (s : ℕ). flip i (gives inv D a k s)) (inverts-reference inv j (first t))
+    (edge-nodeOf inv (a p) p (base + length (classes inv ts)) (halves ts) (normal inv t))
     ∙ ap (flip (inv && first t)) below
     ∙ at-back inv p a t
 
@@ -120,7 +134,8 @@ pub gives-refer : (inv : Bool) (D : Diagram) (a : ℕ → Bool) (d p base : ℕ)
 gives-refer inv D a zero p base ts (leaf b) w q k h = ap (gives inv D a k) (refer-leaf inv base ts (leaf b)) ∙ gives-digit inv D a k b
 gives-refer inv D a (suc d) p base ts t w q zero h = absurd (not-suc-le-zero h)
 gives-refer inv D a (suc d) p base ts t w q (suc k) h =
-    let rest : (u : Tree Bool d) → Known inv (halves ts) u → (l : ℕ) → d ≤ l → gives inv D a l (refer inv d (base + length (classes inv ts)) (halves ts) u) ≡ at (suc p) a u =
+    let rest : (u : Tree Bool d) → Known inv (halves ts) u → (l : ℕ) → d ≤ l
+    → gives inv D a l (refer inv d (base + length (classes inv ts)) (halves ts) u) ≡ at (suc p) a u =
     λ u. gives-refer inv D a d (suc p) (base + length (classes inv ts)) (halves ts) u (holds-below inv D d p base ts w) in
     split (depends t)
     (λ e. gives-class inv D a d p base ts t w q k e
@@ -143,11 +158,13 @@ from-refer inv D (suc d) p base ts t w q =
     ∙ class-node inv D d p base ts w (normal inv t) k (record { level = 0; low = 0; high = 0 }) in
     subst (λ (r : ℕ). T (from inv D p r)) (sym (refer-depends inv base ts t e))
     (from-node inv D p (reference inv j (first t))
-    (reference-largest inv j (first t) (length (D .nodes)) (class-index inv D d p base ts w (normal inv t) k (record { level = 0; low = 0; high = 0 })))
+    (reference-largest inv j (first t) (length (D .nodes))
+    (class-index inv D d p base ts w (normal inv t) k (record { level = 0; low = 0; high = 0 })))
     (omega (arith, ap (λ (c : Node). c .level) found))))
     (λ e. subst (λ (r : ℕ). T (from inv D p r)) (sym (refer-skips inv base ts t e))
     (from-sooner inv D p (suc p) (refer inv d (base + length (classes inv ts)) (halves ts) (half false t)) (le-step (le-refl p))
-    (from-refer inv D d (suc p) (base + length (classes inv ts)) (halves ts) (half false t) (holds-below inv D d p base ts w) (known-half inv false ts t q))))
+    (from-refer inv D d (suc p) (base + length (classes inv ts)) (halves ts) (half false t) (holds-below inv D d p base ts w)
+    (known-half inv false ts t q))))
 
 -- every node is good: its level is below n and its edges go to later levels or constants
 pub nodes-good : (inv : Bool) (D : Diagram) (n d p base : ℕ) (ts : List (Tree Bool d)) → Holds inv D d p base ts → p + d ≡ n
@@ -163,7 +180,8 @@ nodes-good inv D n (suc d) p base ts w e =
     (known-half inv c ts x (class-known inv ts x h)) in
     let f = refer inv d b (halves ts) (half false x) in
     let g = refer inv d b (halves ts) (half true x) in
-    and-T (ltb p n) (later inv D p f && later inv D p g) (lt→ltb p n (omega arith)) (and-T (later inv D p f) (later inv D p g) (known false) (known true)) in
+    and-T (ltb p n) (later inv D p f && later inv D p g) (lt→ltb p n (omega arith))
+    (and-T (later inv D p f) (later inv D p g) (known false) (known true)) in
     all-append (nodeGood inv n D) (map (nodeOf inv p b (halves ts)) (classes inv ts)) (nodes inv d (suc p) b (halves ts))
     (all-map same same-equality (nodeGood inv n D) (nodeOf inv p b (halves ts)) (classes inv ts) good)
     (nodes-good inv D n d (suc p) b (halves ts) below (omega arith))
@@ -200,7 +218,8 @@ pub network-gives : (inv : Bool) (n : ℕ) (ts : List (Tree Bool n)) (a : ℕ �
 unfolding network
 network-gives inv n ts a j t₀ h =
     ap (gives inv (network inv n ts) a n) (getD-map (refer inv n 0 ts) ts j t₀ 0 h)
-    ∙ gives-refer inv (network inv n ts) a n 0 0 ts (getD ts j t₀) (network-holds inv n ts) (known-of inv ts (getD ts j t₀) (has-getD same same-equality ts j t₀ h)) n (le-refl n)
+    ∙ gives-refer inv (network inv n ts) a n 0 0 ts (getD ts j t₀) (network-holds inv n ts)
+    (known-of inv ts (getD ts j t₀) (has-getD same same-equality ts j t₀ h)) n (le-refl n)
 
 -- 'Its function is the member whose all-zero row is 0, so its 0-arrow is even'
 pub low-even : (d p base : ℕ) (ts : List (Tree Bool d)) → T (all (λ c. not (inverts true (c .low))) (nodes true d p base ts))
@@ -210,5 +229,6 @@ low-even (suc d) p base ts =
     let b = base + length (classes true ts) in
     all-append (λ c. not (inverts true (c .low))) (map (nodeOf true p b (halves ts)) (classes true ts)) (nodes true d (suc p) b (halves ts))
     (all-map same same-equality (λ c. not (inverts true (c .low))) (nodeOf true p b (halves ts)) (classes true ts)
-    (λ x h. to-not (refer-inverts true d b (halves ts) (half false x) ∙ first-half x ∙ ap first (sym (classes-normal true ts x h)) ∙ first-normal x)))
+    (λ x h. to-not (refer-inverts true d b (halves ts) (half false x) ∙ first-half x ∙ ap first (sym (classes-normal true ts x h))
+    ∙ first-normal x)))
     (low-even d (suc p) b (halves ts))

@@ -52,7 +52,8 @@ candidate-step inv f gs =
     (λ q. rw q (subst₂ (λ m n. Step inv m (along inv 0 f gs .link) n) (zero-add (length gs)) (zero-add (length (along inv 0 f gs .entries)))
     (along-step inv 0 f gs)))))
 
-level-rising : {d : ℕ} (inv : Bool) (gs fs : List (Tree Row d)) → Rising inv (length gs) (level inv gs fs .links) (length (level inv gs fs .entries))
+level-rising : {d : ℕ} (inv : Bool) (gs fs : List (Tree Row d))
+    → Rising inv (length gs) (level inv gs fs .links) (length (level inv gs fs .entries))
 level-rising inv gs [] = refl
 level-rising inv gs (f ∷ fs) =
     (length (candidate inv f gs .entries), candidate-step inv f gs, level-rising inv (candidate inv f gs .entries) fs)
@@ -91,4 +92,5 @@ step-valid inv k n m (entry j i) h (inr s) = (omega arith, s .1 ∙ plain inv �
 
 pub rising-valid : (inv : Bool) (k m : ℕ) (ls : List Link) → Rising inv k ls m → AllValid inv m ls
 rising-valid inv k m [] r = tt
-rising-valid inv k m (l ∷ ls) r = (step-valid inv k (r .0) m l (rising-le inv (r .0) m ls (r .2)) (r .1), rising-valid inv (r .0) m ls (r .2))
+rising-valid inv k m (l ∷ ls) r =
+    (step-valid inv k (r .0) m l (rising-le inv (r .0) m ls (r .2)) (r .1), rising-valid inv (r .0) m ls (r .2))

@@ -84,7 +84,8 @@ module _ {d : ℕ} (inv : Bool) where
       (λ e. let v = depends-varies t e in
       split (has same n gs)
       (λ q. rw (v, e, q) (less-more same same-equality n gs F ∙ less-again same same-equality n gs F (to-T q) ∙ listed-fresh gs ts))
-      (λ q. rw (v, e, q, e) (ap (λ (l : List (Tree Bool (suc d))). n ∷ l) (less-more same same-equality n gs F ∙ listed-fresh (n ∷ gs) ts))))
+      (λ q. rw (v, e, q, e) (ap (λ (l : List (Tree Bool (suc d))). n ∷ l)
+      (less-more same same-equality n gs F ∙ listed-fresh (n ∷ gs) ts))))
       (λ e. split (isNew inv gs t)
       (λ q. rw (e, q, e) (sym (less-other same same-equality n gs F (unlisted t ts e)) ∙ listed-fresh (n ∷ gs) ts))
       (λ q. rw (e, q) (listed-fresh gs ts)))

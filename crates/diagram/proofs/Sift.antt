@@ -27,13 +27,13 @@ module _ (t : Table) (v : ℕ) (order : List ℕ) where
   unfolding sift
   sift-beside b = beside-from v (chosen t v order (t .n)) order b
 
-  -- an order beside the one that is left is the first with v moved to one of the n places, which were all tried
+  -- an order beside the one that is left is the first with v moved to one of the n levels, which were all tried
   pub sift-least : v < t .n → (other : List ℕ) → Beside (t .n) v (sift t v order) other → cost t (sift t v order) ≤ cost t other
   sift-least h other b =
       let m = beside-moved (t .n) v order other h (sift-beside b) in
       subst (λ (xs : List ℕ). cost t (sift t v order) ≤ cost t xs) (sym (m .0)) (sift-cost (index eqb v other) (m .1))
 
--- sifted: whatever diagram is taken for another place of v, it has at least as many nodes as the cost of the order left
+-- sifted: whatever diagram is taken for another level of v, it has at least as many nodes as the cost of the order left
 pub sifted : (t : Table) (v : ℕ) (order : List ℕ) → v < t .n → SiftedLeast t v (sift t v order) (cost t (sift t v order))
 unfolding Least SiftedLeast
 sifted t v order h other b D s = le-trans (sift-least t v order h other b) (least-cost t other (b .valid) D s)

@@ -14,7 +14,7 @@ use Rattle.diagram.specs.Tree.{Tree, halves, pairs, same}
 use Rattle.diagram.specs.Fill.{Row, Link, level, follow, fill, trace}
 use Rattle.diagram.specs.Diagram.{Node, Diagram}
 use Rattle.diagram.specs.Network.{normal, classes, refer, nodeOf, nodes, network, counts}
-use Rattle.diagram.specs.Trace.{differing, linkRef, entryRefs, entryNodes, tracedRefs, tracedNodes, tracedNetwork, tracedCounts}
+use Rattle.diagram.specs.inner.Trace.{differing, linkRef, entryRefs, entryNodes, tracedRefs, tracedNodes, tracedNetwork, tracedCounts}
 use Rattle.diagram.proofs.Tree.{varies}
 use Rattle.diagram.proofs.Classes.{classes-distinct}
 use Rattle.diagram.proofs.Apart.{apart-filled, varied-filled}
@@ -46,7 +46,8 @@ classes-links inv d ts fs s = classes-fresh inv ts ∙ ap (listed inv) (s ∙ be
 map-follow : {d : ℕ} (inv : Bool) (base : ℕ) (ts E : List (Tree Bool d)) (ls : List Link) → AllValid inv (length E) ls
     → map (refer inv d base ts) (map (follow E) ls) ≡ map (linkRef (map (refer inv d base ts) E)) ls
 map-follow inv base ts E [] v = refl
-map-follow inv base ts E (l ∷ ls) v = ap₂ (λ (r : ℕ) (rs : List ℕ). r ∷ rs) (refer-follow inv base ts E l (v .0)) (map-follow inv base ts E ls (v .1))
+map-follow inv base ts E (l ∷ ls) v =
+    ap₂ (λ (r : ℕ) (rs : List ℕ). r ∷ rs) (refer-follow inv base ts E l (v .0)) (map-follow inv base ts E ls (v .1))
 
 abbrev diagram : List Node → List ℕ → Diagram
 diagram cs rs = record { nodes = cs; roots = rs }
@@ -90,7 +91,8 @@ refs-traced inv (suc d) base ts fs s =
     let ls = linksOf inv gs in
     let E = below inv d gs in
     ap (map (refer inv (suc d) base ts)) (below-pairs inv d fs)
-    ∙ refs-links inv E (apart-below inv d gs) (varied-below inv d gs) ts (base + length (classes inv ts)) base [] ls (links-valid inv d gs) refl
+    ∙ refs-links inv E (apart-below inv d gs) (varied-below inv d gs) ts (base + length (classes inv ts)) base [] ls
+    (links-valid inv d gs) refl
     (classes-distinct inv ts) (classes-links inv d ts fs s)
     ∙ ap₂ (λ b r. entryRefs inv b r ls) (add-zero base)
     (ap (λ k. map (refer inv d (base + k) (halves ts)) E) (count-level inv d ts fs s)
@@ -131,7 +133,8 @@ roots-traced : (inv : Bool) (n : ℕ) (fs : List (Tree Row n))
 roots-traced inv n fs =
     let ts = fill inv n fs in
     ap (λ (r : List ℕ). map (linkRef r) (linksOf inv fs)) (sym (refs-traced inv n 0 ts fs (fresh-fill inv n fs)))
-    ∙ sym (map-follow inv 0 ts (below inv n fs) (linksOf inv fs) (links-valid inv n fs)) ∙ ap (map (refer inv n 0 ts)) (sym (fill-below inv n fs))
+    ∙ sym (map-follow inv 0 ts (below inv n fs) (linksOf inv fs) (links-valid inv n fs))
+    ∙ ap (map (refer inv n 0 ts)) (sym (fill-below inv n fs))
 
 pub traced : (inv : Bool) (n : ℕ) (fs : List (Tree Row n)) → tracedNetwork inv (trace inv n fs) ≡ network inv n (fill inv n fs)
 unfolding tracedNetwork network

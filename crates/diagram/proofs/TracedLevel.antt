@@ -15,7 +15,7 @@ use Rattle.diagram.specs.Tree.{Tree, node, half, halves, pairs, first, s
 use Rattle.diagram.specs.Fill.{Link, follow}
 use Rattle.diagram.specs.Diagram.{Node, inverts}
 use Rattle.diagram.specs.Network.{depends, normal, classes, reference, refer, nodeOf}
-use Rattle.diagram.specs.Trace.{sameLink, differing, opposite, linkRef, entryRefs, entryNodes}
+use Rattle.diagram.specs.inner.Trace.{sameLink, differing, opposite, linkRef, entryRefs, entryNodes}
 use Rattle.diagram.proofs.Bools.{split}
 use Rattle.diagram.proofs.Lists.{Equality, index-getD}
 use Rattle.diagram.proofs.Tree.{same-equality, half-inverted, varies}
@@ -46,7 +46,8 @@ one-more : {A : Type 0} (base : ℕ) (xs : List A) (y : A) → base + length (xs
 one-more base xs y = omega (arith, length-append xs (y ∷ []))
 
 module _ {d : ℕ} (inv : Bool) (E : List (Tree Bool d)) (apart : T (distinct same (map (normal inv) E))) (varied : T (all varies E)) where
-  depends-links : (k l : Link) → Valid inv (length E) k → Valid inv (length E) l → depends (node (follow E k) (follow E l)) ≡ not (sameLink k l)
+  depends-links : (k l : Link) → Valid inv (length E) k → Valid inv (length E) l
+      → depends (node (follow E k) (follow E l)) ≡ not (sameLink k l)
   depends-links k l p q = ap not (follow-same inv E apart varied k l p q)
 
   pub count-links : (ls : List Link) → AllValid inv (length E) ls → length (listed inv (pairs (map (follow E) ls))) ≡ differing ls
@@ -71,7 +72,8 @@ module _ {d : ℕ} (inv : Bool) (E : List (Tree Bool d)) (apart : T (distinct sa
         → refer inv d more (halves ts) (half b (normal inv t)) ≡ opposite (inverts inv (linkRef refsOf k)) (linkRef refsOf l)
     edge-link b t k l p q f h =
         ap (refer inv d more (halves ts)) (half-inverted b (inv && first t) t) ∙ refer-inverted inv (first t) d more (halves ts) (half b t)
-        ∙ ap₂ opposite (ap (λ c. inv && c) f ∙ sym (inverts-link k p)) (ap (refer inv d more (halves ts)) h ∙ refer-follow inv more (halves ts) E l q)
+        ∙ ap₂ opposite (ap (λ c. inv && c) f ∙ sym (inverts-link k p))
+        (ap (refer inv d more (halves ts)) h ∙ refer-follow inv more (halves ts) E l q)
 
     pub nodes-links : (p : ℕ) (ls : List Link) → AllValid inv (length E) ls
         → map (nodeOf inv p more (halves ts)) (listed inv (pairs (map (follow E) ls))) ≡ entryNodes inv p refsOf ls
@@ -91,7 +93,8 @@ module _ {d : ℕ} (inv : Bool) (E : List (Tree Bool d)) (apart : T (distinct sa
         (nodes-links p ls (v .1 .1))))
 
     -- cs are the classes of the entries before; the next that depends stands at their number in the list of classes
-    pub refs-links : (base : ℕ) (cs : List (Tree Bool (suc d))) (ls : List Link) → AllValid inv (length E) ls → base + length (classes inv ts) ≡ more
+    pub refs-links : (base : ℕ) (cs : List (Tree Bool (suc d))) (ls : List Link) → AllValid inv (length E) ls
+        → base + length (classes inv ts) ≡ more
         → T (distinct same (classes inv ts)) → classes inv ts ≡ cs ++ listed inv (pairs (map (follow E) ls))
         → map (refer inv (suc d) base ts) (pairs (map (follow E) ls)) ≡ entryRefs inv (base + length cs) refsOf ls
     refs-links base cs [] v m t c = refl

@@ -1,4 +1,4 @@
--- What f gives of each number below n, as a list: how long it is, what it has at a place, its first elements, one element more,
+-- What f gives of each number below n, as a list: how long it is, what it has at an index, its first elements, one element more,
 -- such a list in two parts, and two that are equal.
 -- Assumes nothing.
 use mathlib.Core.Path.{_≡_, refl, sym, ap, ap₂, _∙_}

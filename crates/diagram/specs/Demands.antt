@@ -3,7 +3,6 @@
 use mathlib.Core.Path.{_≡_}
 use mathlib.Core.Bool.{Bool, true}
 use mathlib.Core.List.{List}
-use mathlib.Core.Logic.{_↔_}
 use Prim.Native.Nat.{ℕ, suc, _*_, _≤_, _<_, _^_}
 use lib.Dec.{T, eqb}
 use lib.ListN.{length}
@@ -22,16 +21,16 @@ Kept inv t order =
 unfoldable pub Least : Bool → Table → List ℕ → ℕ → Type 0
 Least inv t order c = (D : Diagram) → Solves inv t order D → c ≤ length (D .nodes)
 
--- demand 3, fit: some diagram that computes the filled table fits the board exactly when the board has c nodes or more
-unfoldable pub FitsFrom : Bool → Table → List ℕ → ℕ → Type 0
-FitsFrom inv t order c = (capacity : ℕ) → ((D : Diagram) × Solves inv t order D × Fits D capacity) ↔ (c ≤ capacity)
+-- demand 3, fit: no diagram that computes the filled table fits a board of this size
+unfoldable pub NoneFits : Bool → Table → List ℕ → ℕ → Type 0
+NoneFits inv t order capacity = (D : Diagram) → Solves inv t order D → Fits D capacity → ⊥
 
--- an order that differs from another only in the place of v, the others in sequence
+-- an order that differs from another only in the level of v: 'the others in sequence'
 pub record Beside (n v : ℕ) (order other : List ℕ) : Type 0 where
   pub valid : T (isOrder n other)
   pub others : without eqb v other ≡ without eqb v order
 
--- demand 3 after a sift of v that leaves this order at the cost c: no other place of v is cheaper, whatever diagram is taken there
+-- demand 3 after a sift of v that leaves this order at the cost c: no other level of v is cheaper, whatever diagram is taken there
 unfoldable pub SiftedLeast : Table → ℕ → List ℕ → ℕ → Type 0
 SiftedLeast t v left c = (other : List ℕ) → Beside (t .n) v left other → Least true t other c
 

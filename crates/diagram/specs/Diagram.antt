@@ -56,7 +56,8 @@ unfoldable pub wellFormed : Bool → ℕ → ℕ → Diagram → Bool
 wellFormed inv n m D = eqb (length (D .roots)) m && (all (refers inv D) (D .roots) && all (nodeGood inv n D) (D .nodes))
 
 -- what a row gives at a reference, where a p is the row's bit of the variable at level p: constants give themselves, a node what its
--- edge for that bit gives, an inverting reference the opposite. Levels rise along edges, so n steps are enough for n levels (law gives-more).
+-- edge for that bit gives, an inverting reference the opposite. Levels rise along edges, so n steps are enough for n levels (law
+-- gives-more).
 unfoldable pub gives : Bool → Diagram → (ℕ → Bool) → ℕ → ℕ → Bool
 gives inv D a zero r = eqb r 1
 gives inv D a (suc k) r =

@@ -3,7 +3,7 @@ pub mod Tree
 pub mod Fill
 pub mod Diagram
 pub mod Network
-pub mod Trace
+pub mod inner
 pub mod Order
 pub mod Table
 pub mod Sift

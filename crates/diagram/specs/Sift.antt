@@ -10,7 +10,7 @@ use Rattle.diagram.specs.Network.{counts}
 use Rattle.diagram.specs.Order.{moved}
 use Rattle.diagram.specs.Table.{Table, filled, cost}
 
--- the smallest place of 0 to k with the fewest
+-- the smallest level of 0 to k with the fewest
 abbrev pub fewest : (ℕ → ℕ) → ℕ → ℕ
 fewest f zero = 0
 fewest f (suc k) = cond (ltb (f (suc k)) (f (fewest f k))) (suc k) (fewest f k)

@@ -1,5 +1,5 @@
 -- Perfect binary trees: what stands at each row of d variables, the top variable's 0-half first.
--- A tree is document 01's segment; its halves are the segments that fix one place more (cofactors).
+-- A tree is document 01's segment; its halves are the segments that fix one level more (cofactors).
 -- Assumes nothing.
 use mathlib.Core.Bool.{Bool, true, false, cond, Bool·beq, _&&_}
 use mathlib.Core.List.{List, [], _∷_}

@@ -10,6 +10,7 @@ use lib.Dec.{T, eqb, ltb}
 use lib.ListN.{length, getD, take}
 use Rattle.diagram.specs.Lists.{flip}
 use Rattle.diagram.specs.Diagram.{Node, inverts, wellFormed, gives}
+use Rattle.diagram.specs.Bound.{mostVariables, mostOutputs}
 use Rattle.diagram.specs.Order.{rowUnder}
 use Rattle.diagram.proofs.Bools.{to-T}
 use Rattle.diagram.proofs.Evaluate.{formed-roots, formed-nodes}
@@ -22,7 +23,7 @@ use Rattle.table.specs.Stream.{packed}
 use Rattle.table.specs.State.{orderOf, stageOf, isNothing, isNetwork}
 use Rattle.table.proofs.Held.{few-inputs, few-outputs, ordered}
 use Rattle.network.specs.Lent.{lentDiagram, rootsSize}
-use Rattle.network.specs.Cells.{lentCells, Followable, Rooted, outputAt}
+use Rattle.network.specs.inner.Cells.{lentCells, Followable, Rooted, outputAt}
 use Rattle.network.specs.Evaluate.{goodCells, rowOutputs, evaluateAnswer}
 
 network-held : (t : Stage) → T (isNetwork t) → T (not (isNothing t))
@@ -44,23 +45,24 @@ pub outputs-row : (s : State) (row : ℕ) (roots cells : List ℕ)
 unfolding rowOutputs outputAt lentDiagram lentCells
 outputs-row s row roots cells =
     ap (packed (s .m))
-    (λ i j. gives-roots (lentCells (s .count) cells .nodes) [] (take (s .m) roots) (rowUnder (s .n) (orderOf s) row) (s .n) (getD roots j 0) i)
+    (λ i j. gives-roots (lentCells (s .count) cells .nodes) [] (take (s .m) roots) (rowUnder (s .n) (orderOf s) row) (s .n)
+    (getD roots j 0) i)
 
 module _ (s : State) (row : ℕ) (roots cells : List ℕ) where
-  pub answer-short : length roots < 16 → evaluateAnswer s row roots cells ≡ ShortBuffer
+  pub answer-short : length roots < mostOutputs → evaluateAnswer s row roots cells ≡ ShortBuffer
   unfolding evaluateAnswer rootsSize
-  answer-short h = rw (lt-leb 16 (length roots) h)
+  answer-short h = rw (lt-leb mostOutputs (length roots) h)
 
-  module _ (long : 16 ≤ length roots) where
+  module _ (long : mostOutputs ≤ length roots) where
     pub answer-no-network : isNetwork (stageOf s) ≡ false → evaluateAnswer s row roots cells ≡ NoNetwork
     unfolding evaluateAnswer rootsSize
-    answer-no-network e = rw (le-leb 16 (length roots) long, e)
+    answer-no-network e = rw (le-leb mostOutputs (length roots) long, e)
 
     module _ (held : isNetwork (stageOf s) ≡ true) where
       table : T (not (isNothing (stageOf s)))
       table = network-held (stageOf s) (to-T held)
 
-      pub inputs-few : s .n ≤ 10
+      pub inputs-few : s .n ≤ mostVariables
       inputs-few = few-inputs s table
 
       pub roots-fit : s .m ≤ length roots
@@ -71,13 +73,13 @@ module _ (s : State) (row : ℕ) (roots cells : List ℕ) where
 
       pub answer-no-row : 1 * 2 ^ s .n % 2 ^ 64 ≤ row → evaluateAnswer s row roots cells ≡ NoRow
       unfolding evaluateAnswer rootsSize
-      answer-no-row h = rw (le-leb 16 (length roots) long, held, le-ltb row (2 ^ s .n) (omega (arith, rows)))
+      answer-no-row h = rw (le-leb mostOutputs (length roots) long, held, le-ltb row (2 ^ s .n) (omega (arith, rows)))
 
       module _ (known : row < 1 * 2 ^ s .n % 2 ^ 64) where
         rest : (b : Bool) → goodCells s roots cells ≡ b
             → evaluateAnswer s row roots cells ≡ cond b (Done (rowOutputs s row roots cells)) BadCells
         unfolding evaluateAnswer rootsSize
-        rest b e = rw (le-leb 16 (length roots) long, held, lt-ltb row (2 ^ s .n) (omega (arith, rows)), e)
+        rest b e = rw (le-leb mostOutputs (length roots) long, held, lt-ltb row (2 ^ s .n) (omega (arith, rows)), e)
 
         pub answer-few-cells : length cells / 3 < s .count → evaluateAnswer s row roots cells ≡ BadCells
         unfolding goodCells

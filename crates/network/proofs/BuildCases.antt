@@ -3,34 +3,42 @@
 use mathlib.Core.Path.{_≡_, refl, sym, ap, _∙_, subst}
 use mathlib.Core.Bool.{Bool, true, false, not, _||_}
 use mathlib.Core.List.{List, [], _∷_}
-use Prim.Native.Nat.{ℕ, _*_, _-_, _≤_, _<_}
+use mathlib.Core.Logic.{_↔_}
+use Prim.Native.Nat.{ℕ, _+_, _*_, _-_, _≤_, _<_}
 use native.Mathlib.Omega.{arith}
 use types.Run.{OneOf}
 use denote.Enum.Declared.{tagOf}
 use lib.Dec.{T, eqb}
 use lib.ListN.{length, getD}
+use Rattle.diagram.specs.Bound.{mostVariables, mostOutputs}
+use Rattle.diagram.specs.Demands.{NoneFits}
 use Rattle.diagram.proofs.Bools.{absurd-T}
 use Rattle.table.specs.declared.Answer.{Answer}
 use Rattle.table.specs.declared.Answer.the-variants.{Done, ShortBuffer, TooSmall}
 use Rattle.table.specs.declared.Outcome.{Outcome}
 use Rattle.table.specs.declared.State.{State}
 use Rattle.table.specs.Answer.{done, number}
-use Rattle.table.specs.State.{stageOf, isNothing}
+use Rattle.table.specs.State.{orderOf, stageOf, isNothing}
 use Rattle.table.specs.Stream.{sum}
 use Rattle.table.specs.Calls.{over}
 use Rattle.table.proofs.Answer.{the-type}
 use Rattle.table.proofs.Held.{few-inputs, few-outputs}
 use Rattle.fill.specs.declared.Levels.{Levels}
-use Rattle.fill.specs.Work.{clearedWork, traceWork}
-use Rattle.fill.specs.Calls.{countAnswer, levelsOf, linksWork}
+use Rattle.fill.specs.Work.{workSize, clearedWork, traceWork}
+use Rattle.fill.specs.Calls.{heldTable, countAnswer, levelsOf, linksWork}
 use Rattle.fill.proofs.CallLaws.{levels-answer}
 use Rattle.network.specs.Lent.{lentDiagram, rootsSize}
-use Rattle.network.specs.Levels.{made, levelAt, levelsMade, rootAt, networkState}
-use Rattle.network.specs.Build.{wanted, capacity, buildOutcome, buildRoots, buildCells, buildWork, Built, FitDecides}
+use Rattle.network.specs.inner.Levels.{storedLimit, made, levelAt, levelsMade, rootAt}
+use Rattle.network.specs.Build.{wanted, capacity, reachesBoard, networkState, buildOutcome, buildRoots, buildCells, buildWork, Built}
 use Rattle.network.proofs.HeldRead.{kss, heldEntries, heldCounts}
 use Rattle.network.proofs.LentNetwork.{built-lent, fit-held}
-use Rattle.network.proofs.Laid.{links-cleared, ready-end, ready-long, ready-total, ready-few, ready-next, laid-work, laid-cells, laid-roots}
-use Rattle.network.proofs.Outcomes.{told-refused, roots-short, count-refused, count-done, too-small, room-enough, refused-outcome, refused-roots, refused-cells, work-kept, work-cleared, done-outcome, done-roots, done-cells, links-kept-work, links-traced, levels-entries, levels-counts}
+use Rattle.network.proofs.RootTurns.{roots-size}
+use Rattle.network.proofs.Laid.{links-cleared, ready-end, ready-long, ready-total, ready-few, ready-next, laid-work, laid-cells}
+use Rattle.network.proofs.Laid.{laid-roots}
+use Rattle.network.proofs.Outcomes.{told-refused, roots-short, short-reaches, count-refused, refused-reaches, count-done}
+use Rattle.network.proofs.Outcomes.{too-small, room-enough, refused-outcome, refused-roots, refused-cells, work-kept, work-cleared}
+use Rattle.network.proofs.Outcomes.{done-outcome, done-roots, done-cells, links-kept-work, links-traced, levels-entries}
+use Rattle.network.proofs.Outcomes.{levels-counts}
 
 abbrev outcome : Answer → State → Outcome
 outcome x s = record { answer = x; state = s }
@@ -47,10 +55,11 @@ module _ (s : State) (values care work roots cells : List ℕ) where
       × ((r ≡ buildRoots s values care work roots cells)
       × ((c ≡ buildCells s values care work roots cells)
       × ((w ≡ buildWork s values care work roots cells)
-      × ((done (o .answer) ≡ true → Built s values care (o .state .count) (lentDiagram (o .state .count) (s .m) c r))
-      × ((done (o .answer) || eqb (number (o .answer)) 23) ≡ true → FitDecides s values care (capacity cells))))))
+      × ((done (o .answer) ≡ true → Built s values care o (lentDiagram (o .state .count) (s .m) c r) (capacity c))
+      × (reachesBoard s values care work roots ≡ true
+      → (number (o .answer) ≡ 23) ↔ NoneFits true (heldTable s values care) (orderOf s) (capacity cells))))))
 
-  pub short-case : length roots < 16 → Ended (outcome ShortBuffer s) work roots cells
+  pub short-case : length roots < mostOutputs → Ended (outcome ShortBuffer s) work roots cells
   short-case h =
       let e = roots-short s values care work roots cells h in (
         refused-outcome s values care work roots cells ShortBuffer e refl,
@@ -60,14 +69,15 @@ module _ (s : State) (values care work roots cells : List ℕ) where
             refused-cells s values care work roots cells ShortBuffer e refl,
             (
               work-kept s values care work roots cells ShortBuffer e refl,
-              (never refl, never refl),
+              (never refl, never (short-reaches s values care work roots cells h)),
             ),
           ),
         ),
       )
 
   -- k and w are what the filling answers and leaves
-  module _ (h : 16 ≤ length roots) (k : Levels) (w : List ℕ) (ek : k ≡ levelsOf s values care work) (ew : w ≡ linksWork s values care work) where
+  module _ (h : mostOutputs ≤ length roots) (k : Levels) (w : List ℕ) (ek : k ≡ levelsOf s values care work)
+      (ew : w ≡ linksWork s values care work) where
     counted : k .answer ≡ countAnswer s values care work
     counted = ap (λ (x : Levels). x .answer) ek ∙ levels-answer s values care work
 
@@ -85,7 +95,10 @@ module _ (s : State) (values care work roots cells : List ℕ) where
             refused-roots s values care work roots cells x e f,
             (
               refused-cells s values care work roots cells x e f,
-              (ew ∙ links-kept-work s values care work fc ∙ work-kept s values care work roots cells x e g, (never f, never g)),
+              (
+                ew ∙ links-kept-work s values care work fc ∙ work-kept s values care work roots cells x e g,
+                (never f, never (refused-reaches s values care work roots cells h fc)),
+              ),
             ),
           ),
         )
@@ -110,7 +123,8 @@ module _ (s : State) (values care work roots cells : List ℕ) where
       pub small-case : capacity cells < total → (w′ : List ℕ) → w′ ≡ clearedWork w → Ended (outcome (TooSmall total) s) w′ roots cells
       small-case b w′ e′ =
           let x = TooSmall total in
-          let e = too-small s values care work roots cells h wanted-success (subst (λ n. capacity cells < n) right-total b) ∙ ap TooSmall (sym right-total) in (
+          let e = too-small s values care work roots cells h wanted-success (subst (λ n. capacity cells < n) right-total b)
+          ∙ ap TooSmall (sym right-total) in (
             refused-outcome s values care work roots cells x e refl,
             (
               refused-roots s values care work roots cells x e refl,
@@ -118,7 +132,7 @@ module _ (s : State) (values care work roots cells : List ℕ) where
                 refused-cells s values care work roots cells x e refl,
                 (
                   e′ ∙ links-cleared s values care held work w traced ∙ work-cleared s values care work roots cells x e refl,
-                  (never refl, λ t. fit-held s values care held (capacity cells)),
+                  (never refl, λ t. (λ e. fit-held s values care held (capacity cells) .1 (omega (arith, right-total, b)), λ none. refl)),
                 ),
               ),
             ),
@@ -132,9 +146,11 @@ module _ (s : State) (values care work roots cells : List ℕ) where
 
       module _ (fits : total ≤ capacity cells) where
         -- the levels may be read
-        pub ready : ((s .n ≤ 10) × (s .m ≤ 16) × (levelAt (s .m) (k .entries) (s .n) < 65536) × (levelAt (s .m) (k .entries) (s .n) ≤ length w))
-            × (((total ≡ sum (λ q. getD (k .counts) q 0) (s .n)) × (total ≤ 32767) × (3 * total ≤ length cells) × (16 ≤ length roots))
-            × ((q : ℕ) → q < s .n → levelsMade (s .m) (k .entries) (k .counts) q (s .n - q) (made w cells 0) .next ≤ total))
+        pub ready : ((s .n ≤ mostVariables) × (s .m ≤ mostOutputs) × (levelAt (s .m) (k .entries) (s .n) ≤ workSize)
+            × (levelAt (s .m) (k .entries) (s .n) ≤ length w))
+            × (((total ≡ sum (λ q. getD (k .counts) q 0) (s .n)) × (2 * total + 1 < storedLimit) × (3 * total ≤ length cells))
+            × ((rootsSize ≤ length roots)
+            × ((q : ℕ) → q < s .n → levelsMade (s .m) (k .entries) (k .counts) q (s .n - q) (made w cells 0) .next ≤ total)))
         ready = (
           (
             few-inputs s held,
@@ -147,21 +163,26 @@ module _ (s : State) (values care work roots cells : List ℕ) where
               ready-total s values care held work cells (k .entries) (k .counts) w total entries-held counts-held traced right-total,
               ready-few s values care held work cells (k .entries) (k .counts) w total entries-held counts-held traced right-total,
               omega arith,
-              h,
             ),
-            ready-next s values care held work cells (k .entries) (k .counts) w total entries-held counts-held traced right-total,
+            (
+              omega (arith, h, roots-size),
+              ready-next s values care held work cells (k .entries) (k .counts) w total entries-held counts-held traced right-total,
+            ),
           ),
         )
 
         pub built-case : (w′ r′ c′ : List ℕ)
             → w′ ≡ clearedWork (levelsMade (s .m) (k .entries) (k .counts) 0 (s .n) (made w cells 0) .work)
             → c′ ≡ levelsMade (s .m) (k .entries) (k .counts) 0 (s .n) (made w cells 0) .cells
-            → r′ ≡ over (rootAt (levelsMade (s .m) (k .entries) (k .counts) 0 (s .n) (made w cells 0) .work) (s .m) (levelAt (s .m) (k .entries) 0)) rootsSize roots
+            → r′ ≡ over (rootAt (levelsMade (s .m) (k .entries) (k .counts) 0 (s .n) (made w cells 0) .work) (s .m)
+            (levelAt (s .m) (k .entries) 0)) rootsSize roots
             → (after : State) → after ≡ networkState s total → Ended (outcome (Done total) after) w′ r′ c′
         built-case w′ r′ c′ yw yc yr after ea =
             let e = room-enough s values care work roots cells h wanted-success (subst (λ n. n ≤ capacity cells) right-total fits) in
-            let ec = yc ∙ laid-cells s values care held work cells (k .entries) (k .counts) w total entries-held counts-held traced right-total (omega arith) in
-            let er = yr ∙ laid-roots s values care held work cells (k .entries) (k .counts) w total entries-held counts-held traced right-total roots in (
+            let ec = yc ∙ laid-cells s values care held work cells (k .entries) (k .counts) w total entries-held counts-held traced
+            right-total (omega arith) in
+            let er = yr ∙ laid-roots s values care held work cells (k .entries) (k .counts) w total entries-held counts-held traced
+            right-total roots in (
               ap (outcome (Done total)) ea ∙ ap (λ n. outcome (Done n) (networkState s n)) right-total
                   ∙ done-outcome s values care work roots cells e,
               (
@@ -169,9 +190,17 @@ module _ (s : State) (values care work roots cells : List ℕ) where
                 (
                   ec ∙ done-cells s values care work roots cells e,
                   (
-                    yw ∙ laid-work s values care held work cells (k .entries) (k .counts) w total entries-held counts-held traced right-total
+                    yw ∙ laid-work s values care held work cells (k .entries) (k .counts) w total entries-held counts-held traced
+                        right-total
                         ∙ work-cleared s values care work roots cells (Done (wanted s values care)) e refl,
-                    (λ t. built-lent s values care held (after .count) cells roots c′ r′ (ap (λ (x : State). x .count) ea ∙ right-total) ec er, λ t. fit-held s values care held (capacity cells)),
+                    (
+                      λ t. built-lent s values care held (outcome (Done total) after) right-total
+                          (ap (λ (x : State). x .count) ea ∙ right-total) cells roots c′ r′ ec er,
+                      λ t. (
+                        λ z. absurd (omega (arith, z)),
+                        λ none. absurd (omega (arith, fit-held s values care held (capacity cells) .0 none, fits, right-total)),
+                      ),
+                    ),
                   ),
                 ),
               ),

@@ -1,14 +1,15 @@
 -- After a build, evaluating any row gives the filled table's bits.
 -- Assumes nothing.
-use mathlib.Core.Path.{_≡_, sym, ap, ap₂, _∙_, subst}
-use mathlib.Core.Bool.{Bool, true, not}
+use mathlib.Core.Path.{_≡_, ap, ap₂, _∙_, subst}
+use mathlib.Core.Bool.{true, not}
 use mathlib.Core.List.{List, _++_}
 use Prim.Native.Nat.{ℕ, _*_, _/_, _^_, _≤_, _<_}
 use native.Mathlib.Omega.{arith}
 use lib.Dec.{T}
 use borrow.Author.Tests.{le-leb, lt-ltb}
-use lib.ListN.{length, getD, drop, length-append}
+use lib.ListN.{length, getD, drop}
 use Rattle.diagram.specs.Diagram.{Diagram, wellFormed, gives}
+use Rattle.diagram.specs.Bound.{mostOutputs}
 use Rattle.diagram.specs.Order.{rowUnder}
 use Rattle.diagram.specs.Table.{filledBit, Computes}
 use Rattle.diagram.proofs.Bools.{split, of-T}
@@ -23,13 +24,10 @@ use Rattle.table.proofs.Over.{length-over, getD-over}
 use Rattle.fill.specs.Calls.{heldTable}
 use Rattle.fill.proofs.DrawBytes.{gathered-cong}
 use Rattle.network.specs.Lent.{lentDiagram, numbersOf, rootsSize}
-use Rattle.network.specs.Levels.{networkState}
 use Rattle.network.specs.Evaluate.{goodCells, rowOutputs, evaluateAnswer}
-use Rattle.network.specs.Build.{heldNetwork, wanted}
+use Rattle.network.specs.Build.{heldNetwork, wanted, networkState}
 use Rattle.network.proofs.RootTurns.{roots-size}
-use Rattle.network.proofs.HeldRead.{wanted-nodes}
-use Rattle.network.proofs.LentNetwork.{lent-network}
-use Rattle.network.proofs.LevelsRead.{numbers-length}
+use Rattle.network.proofs.LentNetwork.{cells-enough, lent-network}
 
 -- the state that a build leaves holds a network
 network-stage : (s : State) (count : ℕ) → T (not (isNothing (stageOf s))) → isNetwork (stageOf (networkState s count)) ≡ true
@@ -46,17 +44,13 @@ abbrev pub builtRoots : State → List ℕ → List ℕ → List ℕ → List �
 builtRoots s values care roots = over (λ j. getD (heldNetwork s values care .roots) j 0) rootsSize roots
 
 module _ (s : State) (values care roots cells : List ℕ) (held : T (not (isNothing (stageOf s))))
-    (long : 16 ≤ length roots) (row : ℕ) (known : row < 2 ^ s .n) where
-  roots-long : 16 ≤ length (builtRoots s values care roots)
+    (long : mostOutputs ≤ length roots) (row : ℕ) (known : row < 2 ^ s .n) where
+  roots-long : mostOutputs ≤ length (builtRoots s values care roots)
   roots-long =
       omega (arith, length-over (λ j. getD (heldNetwork s values care .roots) j 0) rootsSize roots (omega (arith, roots-size)))
 
-  cells-enough : wanted s values care ≤ length (builtCells s values care cells) / 3
-  cells-enough =
-      let N = heldNetwork s values care .nodes in
-      omega (arith, length-append (numbersOf N) (drop (3 * wanted s values care) cells), numbers-length N, wanted-nodes s values care)
-
-  formed : wellFormed true (s .n) (s .m) (lentDiagram (wanted s values care) (s .m) (builtCells s values care cells) (builtRoots s values care roots)) ≡ true
+  formed : wellFormed true (s .n) (s .m) (lentDiagram (wanted s values care) (s .m) (builtCells s values care cells)
+      (builtRoots s values care roots)) ≡ true
   unfolding heldNetwork
   formed =
       ap (wellFormed true (s .n) (s .m)) (lent-network s values care held cells roots)
@@ -64,7 +58,7 @@ module _ (s : State) (values care roots cells : List ℕ) (held : T (not (isNoth
 
   good : goodCells (networkState s (wanted s values care)) (builtRoots s values care roots) (builtCells s values care cells) ≡ true
   unfolding goodCells
-  good = rw (le-leb (wanted s values care) (length (builtCells s values care cells) / 3) cells-enough, formed)
+  good = rw (le-leb (wanted s values care) (length (builtCells s values care cells) / 3) (cells-enough s values care cells), formed)
 
   root-there : (j : ℕ) → j < s .m → getD (builtRoots s values care roots) j 0 ≡ getD (heldNetwork s values care .roots) j 0
   root-there j h =
@@ -79,13 +73,20 @@ module _ (s : State) (values care roots cells : List ℕ) (held : T (not (isNoth
       gathered-cong (s .m) (λ j. gives true D (rowUnder (s .n) (orderOf s) row) (s .n) (getD (builtRoots s values care roots) j 0))
       (λ j. filledBit true (heldTable s values care) (orderOf s) j row)
       (λ j h.
-      ap₂ (λ (E : Diagram) (r : ℕ). gives true E (rowUnder (s .n) (orderOf s) row) (s .n) r) (lent-network s values care held cells roots) (root-there j h)
+      ap₂ (λ (E : Diagram) (r : ℕ). gives true E (rowUnder (s .n) (orderOf s) row) (s .n) r) (lent-network s values care held cells roots)
+      (root-there j h)
       ∙ right true (heldTable s values care) (orderOf s) .computes j row h known)
 
   -- so evaluating after a build answers them
-  pub evaluate-built : evaluateAnswer (networkState s (wanted s values care)) row (builtRoots s values care roots) (builtCells s values care cells)
+  pub evaluate-built : evaluateAnswer (networkState s (wanted s values care)) row (builtRoots s values care roots)
+      (builtCells s values care cells)
       ≡ Done (packed (s .m) (λ j. filledBit true (heldTable s values care) (orderOf s) j row))
   unfolding evaluateAnswer
   evaluate-built =
-      rw (le-leb rootsSize (length (builtRoots s values care roots)) (omega (arith, roots-long, roots-size)), network-stage s (wanted s values care) held, lt-ltb row (2 ^ s .n) known, good)
+      rw (
+        le-leb rootsSize (length (builtRoots s values care roots)) (omega (arith, roots-long, roots-size)),
+        network-stage s (wanted s values care) held,
+        lt-ltb row (2 ^ s .n) known,
+        good,
+      )
       (ap Done built-row)

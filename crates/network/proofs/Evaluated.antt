@@ -1,6 +1,6 @@
 -- Number 24 in the paper's words, and that bit j of the answer is output j.
 -- Assumes nothing.
-use mathlib.Core.Path.{_≡_, refl, sym, ap₂, _∙_, subst}
+use mathlib.Core.Path.{_≡_, sym, ap₂, _∙_, subst}
 use mathlib.Core.Bool.{Bool, true, false, _&&_}
 use mathlib.Core.List.{List}
 use mathlib.Core.Logic.{_⊎_, inl, inr, ⊎-elim}
@@ -15,27 +15,21 @@ use Rattle.diagram.proofs.Bools.{split, to-T, absurd-T, and-T, and-l, and-r}
 use Rattle.diagram.proofs.Numbers.{all-upTo-at, all-upTo-of}
 use Rattle.table.specs.declared.State.{State}
 use Rattle.network.specs.Lent.{lentNode, lentDiagram}
-use Rattle.network.specs.Cells.{lentCells}
+use Rattle.network.specs.inner.Cells.{lentCells}
 use Rattle.network.specs.Evaluate.{goodCells}
 use Rattle.network.proofs.Nodes.{lent-length, all-nodes, all-first}
 use Rattle.network.proofs.Tested.{goodNode, ownRoot, later-constant, later-past, later-own, both-tests}
 
--- the test of number 24 is whether the counted cells are lent, and they and the first m roots are a well-formed diagram
-pub good-cells : (s : State) (roots cells : List ℕ) → goodCells s roots cells
-    ≡ leb (s .count) (length cells / 3) && wellFormed true (s .n) (s .m) (lentDiagram (s .count) (s .m) cells roots)
-unfolding goodCells
-good-cells s roots cells = refl
-
--- an arrow r of a cell at place p: 'a reference above 2 × count + 1, or an arrow not to a later place or constant' it is not
-pub record ArrowFine (count : ℕ) (cells : List ℕ) (p r : ℕ) : Type 0 where
+-- an edge r of a cell at level p: 'a reference above 2 × count + 1, or an arrow not to a later place or constant' it is not
+pub record EdgeFine (count : ℕ) (cells : List ℕ) (p r : ℕ) : Type 0 where
   pub known : r ≤ 2 * count + 1
   pub onward : (r < 2) ⊎ (p < getD cells (3 * (r / 2 - 1)) 0)
 
 -- none of what number 24 is given for
 pub record Fine (n m count : ℕ) (roots cells : List ℕ) : Type 0 where
   pub enough : count ≤ length cells / 3
-  pub places : (i : ℕ) → i < count → getD cells (3 * i) 0 < n
-  pub arrows : (i : ℕ) → i < count → (b : Bool) → ArrowFine count cells (getD cells (3 * i) 0) (edge b (lentNode cells i))
+  pub levels : (i : ℕ) → i < count → getD cells (3 * i) 0 < n
+  pub edges : (i : ℕ) → i < count → (b : Bool) → EdgeFine count cells (getD cells (3 * i) 0) (edge b (lentNode cells i))
   pub references : (j : ℕ) → j < m → getD roots j 0 ≤ 2 * count + 1
 
 module _ (count : ℕ) (cells : List ℕ) where
@@ -45,43 +39,45 @@ module _ (count : ℕ) (cells : List ℕ) where
   known-own : (r : ℕ) → r ≤ 2 * count + 1 → T (refers true (lentCells count cells) r)
   known-own r h = rw (lent-length count cells) (le→leb r (2 * count + 1) h)
 
-  arrow-fine : (p r : ℕ) → T (later true (lentCells count cells) p r) → ArrowFine count cells p r
-  arrow-fine p r t =
+  edge-fine : (p r : ℕ) → T (later true (lentCells count cells) p r) → EdgeFine count cells p r
+  edge-fine p r t =
       split (ltb r 2) (λ e. let h = ltb-true r 2 e in record { known = omega arith; onward = inl h })
       (λ e. let h = ltb-false r 2 e in
       split (ltb (count + count + 1) r) (λ q. absurd-T t (later-past count cells p r h (ltb-true (count + count + 1) r q)))
       (λ q. let k = ltb-false (count + count + 1) r q in
       record { known = omega arith; onward = inr (ltb→lt p (getD cells (3 * (r / 2 - 1)) 0) (subst T (later-own count cells p r h k) t)) }))
 
-  fine-arrow : (p r : ℕ) → ArrowFine count cells p r → T (later true (lentCells count cells) p r)
-  fine-arrow p r f =
+  fine-edge : (p r : ℕ) → EdgeFine count cells p r → T (later true (lentCells count cells) p r)
+  fine-edge p r f =
       split (ltb r 2) (λ e. to-T (later-constant count cells p r (ltb-true r 2 e)))
       (λ e. let h = ltb-false r 2 e in
       ⊎-elim (λ l. absurd (omega arith))
       (λ l. to-T (later-own count cells p r h (omega (arith, f .known)) ∙ lt-ltb p (getD cells (3 * (r / 2 - 1)) 0) l))
       (f .onward))
 
--- the 0-arrow or 1-arrow of cell i, by its test
-abbrev arrow : ℕ → List ℕ → ℕ → Bool → Bool
-arrow count cells i b = later true (lentCells count cells) (getD cells (3 * i) 0) (edge b (lentNode cells i))
+-- the low or high edge of cell i, by its test
+abbrev laterEdge : ℕ → List ℕ → ℕ → Bool → Bool
+laterEdge count cells i b = later true (lentCells count cells) (getD cells (3 * i) 0) (edge b (lentNode cells i))
 
--- a cell is good where its place is below n and both arrows are fine, and only there
+-- a cell is good where its level is below n and both edges are fine, and only there
 module _ (n count : ℕ) (cells : List ℕ) (i : ℕ) where
-  good-place : T (goodNode count cells n i) → getD cells (3 * i) 0 < n
-  good-place t =
-      ltb→lt (getD cells (3 * i) 0) n (and-l (ltb (getD cells (3 * i) 0) n) (arrow count cells i false && arrow count cells i true) t)
+  good-level : T (goodNode count cells n i) → getD cells (3 * i) 0 < n
+  good-level t =
+      ltb→lt (getD cells (3 * i) 0) n (and-l (ltb (getD cells (3 * i) 0) n) (laterEdge count cells i false && laterEdge count cells i true)
+      t)
 
-  good-arrow : T (goodNode count cells n i) → (b : Bool) → T (arrow count cells i b)
-  good-arrow t b = step b (and-r (ltb (getD cells (3 * i) 0) n) (arrow count cells i false && arrow count cells i true) t)
+  good-edge : T (goodNode count cells n i) → (b : Bool) → T (laterEdge count cells i b)
+  good-edge t b = step b (and-r (ltb (getD cells (3 * i) 0) n) (laterEdge count cells i false && laterEdge count cells i true) t)
     where
-      step : (b : Bool) → T (arrow count cells i false && arrow count cells i true) → T (arrow count cells i b)
-      step false u = and-l (arrow count cells i false) (arrow count cells i true) u
-      step true u = and-r (arrow count cells i false) (arrow count cells i true) u
+      step : (b : Bool) → T (laterEdge count cells i false && laterEdge count cells i true) → T (laterEdge count cells i b)
+      step false u = and-l (laterEdge count cells i false) (laterEdge count cells i true) u
+      step true u = and-r (laterEdge count cells i false) (laterEdge count cells i true) u
 
-  good-node : getD cells (3 * i) 0 < n → ((b : Bool) → T (arrow count cells i b)) → T (goodNode count cells n i)
+  good-node : getD cells (3 * i) 0 < n → ((b : Bool) → T (laterEdge count cells i b)) → T (goodNode count cells n i)
   good-node h f =
-      and-T (ltb (getD cells (3 * i) 0) n) (arrow count cells i false && arrow count cells i true) (lt→ltb (getD cells (3 * i) 0) n h)
-      (and-T (arrow count cells i false) (arrow count cells i true) (f false) (f true))
+      and-T (ltb (getD cells (3 * i) 0) n) (laterEdge count cells i false && laterEdge count cells i true)
+      (lt→ltb (getD cells (3 * i) 0) n h)
+      (and-T (laterEdge count cells i false) (laterEdge count cells i true) (f false) (f true))
 
 -- both tests, by index
 tests-by-index : (n m count : ℕ) (roots cells : List ℕ) → m ≤ length roots
@@ -89,7 +85,8 @@ tests-by-index : (n m count : ℕ) (roots cells : List ℕ) → m ≤ length roo
     ≡ all (ownRoot count cells roots) (upTo m) && all (goodNode count cells n) (upTo count)
 tests-by-index n m count roots cells fit =
     both-tests count cells roots m fit n
-    ∙ ap₂ _&&_ (all-first (refers true (lentCells count cells)) m roots fit) (all-nodes count cells (nodeGood true n (lentCells count cells)))
+    ∙ ap₂ _&&_ (all-first (refers true (lentCells count cells)) m roots fit)
+    (all-nodes count cells (nodeGood true n (lentCells count cells)))
 
 -- the test passes where nothing is there that number 24 is given for, and only there
 module _ (s : State) (roots cells : List ℕ) (fit : s .m ≤ length roots) where
@@ -104,8 +101,8 @@ module _ (s : State) (roots cells : List ℕ) (fit : s .m ≤ length roots) wher
       let good = all-upTo-at (goodNode c cells (s .n)) c (and-r R N u) in
       record {
         enough = leb→le c (length cells / 3) (and-l (leb c (length cells / 3)) w t);
-        places = λ i h. good-place (s .n) c cells i (good i h);
-        arrows = λ i h b. arrow-fine c cells (getD cells (3 * i) 0) (edge b (lentNode cells i)) (good-arrow (s .n) c cells i (good i h) b);
+        levels = λ i h. good-level (s .n) c cells i (good i h);
+        edges = λ i h b. edge-fine c cells (getD cells (3 * i) 0) (edge b (lentNode cells i)) (good-edge (s .n) c cells i (good i h) b);
         references = λ j h. own-known c cells (getD roots j 0) (all-upTo-at (ownRoot c cells roots) (s .m) (and-l R N u) j h);
       }
 
@@ -117,8 +114,8 @@ module _ (s : State) (roots cells : List ℕ) (fit : s .m ≤ length roots) wher
       let N : Bool = all (goodNode c cells (s .n)) (upTo c) in
       let own : T R = all-upTo-of (ownRoot c cells roots) (s .m) (λ j h. known-own c cells (getD roots j 0) (f .references j h)) in
       let good : T N = all-upTo-of (goodNode c cells (s .n)) c
-      (λ i h. good-node (s .n) c cells i (f .places i h)
-      (λ b. fine-arrow c cells (getD cells (3 * i) 0) (edge b (lentNode cells i)) (f .arrows i h b))) in
+      (λ i h. good-node (s .n) c cells i (f .levels i h)
+      (λ b. fine-edge c cells (getD cells (3 * i) 0) (edge b (lentNode cells i)) (f .edges i h b))) in
       and-T (leb c (length cells / 3)) (wellFormed true (s .n) (s .m) (lentDiagram c (s .m) cells roots))
       (le→leb c (length cells / 3) (f .enough))
       (subst T (sym (tests-by-index (s .n) (s .m) c roots cells fit)) (and-T R N own good))

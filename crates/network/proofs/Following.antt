@@ -22,7 +22,7 @@ use Rattle.diagram.proofs.Evaluate.{from-top, gives-edge}
 use Rattle.diagram.proofs.Bits.{eqb-digit}
 use Rattle.fill.proofs.Shifts.{bit-masked}
 use Rattle.network.specs.Lent.{lentNode}
-use Rattle.network.specs.Cells.{lentCells, Followable}
+use Rattle.network.specs.inner.Cells.{lentCells, Followable}
 use Rattle.network.proofs.Nodes.{lent-length}
 use Rattle.network.proofs.Tested.{node-behind}
 
@@ -84,7 +84,7 @@ module _ (n : ℕ) (D : Diagram) (good : Good true n D) (a : ℕ → Bool) (r : 
   step-falls =
       let h : nodeAt true D r .level < n = node-level true n D good 0 r (from-top true D r own) (le-ltb r 2 big) in
       split (ltb x 2) (λ e. rw (e, le-ltb r 2 big) (omega arith))
-      (λ e. let k = from-reached true D (suc (nodeAt true D r .level)) x onward e .place in rw (e, le-ltb r 2 big) (omega arith))
+      (λ e. let k = from-reached true D (suc (nodeAt true D r .level)) x onward e .deep in rw (e, le-ltb r 2 big) (omega arith))
 
   pub step-gives : (root : ℕ) (i : Bool) → gives true D a n root ≡ flip i (gives true D a n r)
       → (j : Bool) → j ≡ flip (inverts true r) i → gives true D a n root ≡ flip j (gives true D a n x)

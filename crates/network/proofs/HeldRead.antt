@@ -15,8 +15,8 @@ use Rattle.diagram.specs.Fill.{Row, Link, trace}
 use Rattle.diagram.specs.Diagram.{Node, Diagram}
 use Rattle.diagram.specs.Network.{counts, network, count}
 use Rattle.diagram.specs.Table.{reordered, filled, networkOf, cost}
-use Rattle.diagram.specs.Bound.{mostVariables, mostOutputs, mostNodes}
-use Rattle.diagram.specs.Trace.{differing, linkRef, tracedRefs, tracedNodes, tracedNetwork, tracedCounts}
+use Rattle.diagram.specs.Bound.{mostOutputs, mostNodes}
+use Rattle.diagram.specs.inner.Trace.{differing, linkRef, tracedRefs, tracedNodes, tracedNetwork, tracedCounts}
 use Rattle.diagram.proofs.Bools.{split}
 use Rattle.diagram.proofs.Fill.{links-length}
 use Rattle.diagram.proofs.Levels.{linksOf, lower, trace-lower}
@@ -37,14 +37,15 @@ use Rattle.fill.proofs.Tens.{ten-at}
 use Rattle.fill.proofs.Holding.{work-size}
 use Rattle.network.specs.Lent.{numbersOf, rootsSize}
 use Rattle.network.specs.Build.{heldNetwork, wanted}
-use Rattle.network.specs.Levels.{storedAt, refAt, Made, made, levelAt, levelsMade, rootAt}
+use Rattle.network.specs.inner.Levels.{Made, made, levelAt, levelsMade, rootAt}
 use Rattle.network.proofs.LinkRefs.{Links, links-kept, links-split, links-refs}
-use Rattle.network.proofs.LevelsRead.{traced-length, Sized, LevelsRead, levels-read, levels-next, sized-end, sized-nodes, numbers-length}
+use Rattle.network.proofs.LevelsRead.{traced-length, Sized, LevelsRead, levels-read, levels-next, sized-end, sized-nodes}
+use Rattle.network.proofs.LevelsRead.{numbers-length}
 use Rattle.network.proofs.LevelTurns.{levels-work}
-use Rattle.network.proofs.Offsets.{first-at, sum-below}
+use Rattle.network.proofs.Offsets.{links-at, first-at, sum-below}
 use Rattle.network.proofs.RootTurns.{root-past, root-link}
 use Rattle.network.proofs.TraceSized.{links-valid, lower-length, trace-sized, trace-valid}
-use Rattle.network.proofs.WorkLinks.{links-at, trace-links, trace-long, trace-past, past-same, clear-zero}
+use Rattle.network.proofs.WorkLinks.{trace-links, trace-long, trace-past, past-same, clear-zero}
 
 module _ (s : State) (values care : List ℕ) where
   abbrev pub drawn : List (Tree Row (s .n))
@@ -93,19 +94,21 @@ module _ (s : State) (values care : List ℕ) where
 
   module _ (held : T (not (isNothing (stageOf s)))) where
     pub room : length (allLinks kss) ≤ 4350
-    room = links-room (s .n) drawn (few-inputs s held) (subst (λ k. k ≤ 16) (sym drawn-length) (few-outputs s held))
+    room = links-room (s .n) drawn (few-inputs s held) (subst (λ k. k ≤ mostOutputs) (sym drawn-length) (few-outputs s held))
 
-    pub few-wanted : wanted s values care ≤ 2159
+    pub few-wanted : wanted s values care ≤ mostNodes
     unfolding wanted cost
     few-wanted =
         let ts = filled true (heldTable s values care) (orderOf s) in
-        most (s .n) ts (few-inputs s held) (subst (λ k. k ≤ 16) (sym (filled-length true (heldTable s values care) (orderOf s))) (few-outputs s held))
+        most (s .n) ts (few-inputs s held) (subst (λ k. k ≤ mostOutputs) (sym (filled-length true (heldTable s values care) (orderOf s)))
+        (few-outputs s held))
 
     sized : Sized (s .m) heldEntries heldCounts 0 lss
     sized =
         trace-sized (s .m) heldEntries heldCounts (s .n) 0 drawn
         (λ j h. ap (λ i. getD heldEntries i 0) (zero-add j) ∙ ten-at (entryCounts (s .n) drawn) j (omega (arith, few-inputs s held)))
-        (λ j h. ap (λ i. getD heldCounts i 0) (zero-add j) ∙ ten-at (counts true (s .n) (filled true (heldTable s values care) (orderOf s))) j (omega (arith, few-inputs s held))
+        (λ j h. ap (λ i. getD heldCounts i 0) (zero-add j) ∙ ten-at (counts true (s .n) (filled true (heldTable s values care) (orderOf s)))
+        j (omega (arith, few-inputs s held))
         ∙ ap (λ (l : List ℕ). getD l j 0) (sym counts-traced))
 
     levels-length : 0 + length lss ≡ s .n
@@ -113,7 +116,7 @@ module _ (s : State) (values care : List ℕ) where
 
     -- where the levels' links end, and how many nodes they have
 
-    pub held-end : levelAt (s .m) heldEntries (s .n) ≡ 8192 + 2 * length (allLinks kss)
+    pub held-end : levelAt (s .m) heldEntries (s .n) ≡ linksAt + 2 * length (allLinks kss)
     held-end =
         ap (levelAt (s .m) heldEntries) (sym levels-length) ∙ sized-end (s .m) heldEntries heldCounts lss 0 sized
         ∙ omega (
@@ -152,22 +155,26 @@ module _ (s : State) (values care : List ℕ) where
 
       long : levelAt (s .m) heldEntries (0 + length lss) ≤ length w
       long =
-          omega (arith, ap (levelAt (s .m) heldEntries) levels-length, held-end, room, trace-long kss work room, work-size)
+          omega (arith, ap (levelAt (s .m) heldEntries) levels-length, held-end, room, trace-long kss work room, work-size, links-at)
 
       read : LevelsRead (s .m) heldEntries heldCounts 0 lss (made w cells 0) heldMade
       read =
-          subst (λ k. LevelsRead (s .m) heldEntries heldCounts 0 lss (made w cells 0) (levelsMade (s .m) heldEntries heldCounts 0 k (made w cells 0)))
+          subst (λ k. LevelsRead (s .m) heldEntries heldCounts 0 lss (made w cells 0)
+          (levelsMade (s .m) heldEntries heldCounts 0 k (made w cells 0)))
           (lower-length (s .n) drawn) (levels-read (s .m) heldEntries heldCounts lss 0 (made w cells 0) sized links-levels long)
 
       -- no level's nodes come behind the last
-      pub held-next : (q : ℕ) → q < s .n → levelsMade (s .m) heldEntries heldCounts q (s .n - q) (made w cells 0) .next ≤ wanted s values care
+      pub held-next : (q : ℕ) → q < s .n
+          → levelsMade (s .m) heldEntries heldCounts q (s .n - q) (made w cells 0) .next ≤ wanted s values care
       held-next q h =
-          let e = levels-next (s .m) heldEntries heldCounts lss 0 (made w cells 0) sized links-levels long q (subst (λ k. q < k) (sym (lower-length (s .n) drawn)) h) in
+          let e = levels-next (s .m) heldEntries heldCounts lss 0 (made w cells 0) sized links-levels long q
+          (subst (λ k. q < k) (sym (lower-length (s .n) drawn)) h) in
           let z = zero-add q in
           let k = lower-length (s .n) drawn in
           let e′ : levelsMade (s .m) heldEntries heldCounts q (s .n - q) (made w cells 0) .next ≡ sum (λ r. getD heldCounts r 0) (suc q) =
           subst (λ n. levelsMade (s .m) heldEntries heldCounts q (n - q) (made w cells 0) .next ≡ sum (λ r. getD heldCounts r 0) (suc q)) k
-          (subst (λ x. levelsMade (s .m) heldEntries heldCounts x (length lss - q) (made w cells 0) .next ≡ sum (λ r. getD heldCounts r 0) (suc x)) z e) in
+          (subst (λ x. levelsMade (s .m) heldEntries heldCounts x (length lss - q) (made w cells 0) .next ≡ sum (λ r. getD heldCounts r 0)
+          (suc x)) z e) in
           omega (arith, e′, held-total, sum-below (λ r. getD heldCounts r 0) q (s .n) h)
 
       -- the cells have the network's nodes, and are as they were past them
@@ -184,9 +191,10 @@ module _ (s : State) (values care : List ℕ) where
       held-work =
           let same : length (heldMade .work) ≡ length w = levels-work (s .m) heldEntries heldCounts 0 (s .n) (made w cells 0) in
           let end : levelAt (s .m) heldEntries (0 + length lss) ≤ workSize =
-          omega (arith, ap (levelAt (s .m) heldEntries) levels-length, held-end, room, work-size) in
+          omega (arith, ap (levelAt (s .m) heldEntries) levels-length, held-end, room, work-size, links-at) in
           clear-zero (heldMade .work) work (omega (arith, trace-long kss work room))
-          (past-same w (heldMade .work) (levelAt (s .m) heldEntries 0) (levelAt (s .m) heldEntries (0 + length lss)) workSize same end (read .outside)
+          (past-same w (heldMade .work) (levelAt (s .m) heldEntries 0) (levelAt (s .m) heldEntries (0 + length lss)) workSize same end
+          (read .outside)
           ∙ trace-past kss work room)
 
       -- the roots
@@ -206,7 +214,6 @@ module _ (s : State) (values care : List ℕ) where
           ap (λ (l : List ℕ). getD l j 0) (sym network-roots) in
           split (ltb j (s .m))
           (λ e. root-link (heldMade .work) (s .m) i j (ltb-true j (s .m) e)
-          ∙ ap (λ x. refAt (heldMade .work) i (storedAt (heldMade .work) (x + 2 * j))) (sym links-at)
           ∙ links-refs (heldMade .work) i refs (read .slots) linksAt (linksOf true drawn) links-kept-outputs valid j
           (omega (arith, ltb-true j (s .m) e, outputs-length))
           ∙ roots)
@@ -219,5 +226,6 @@ module _ (s : State) (values care : List ℕ) where
           ≡ over (λ j. getD (heldNetwork s values care .roots) j 0) rootsSize roots
       held-roots roots =
           ap (λ (l : List ℕ). l ++ drop rootsSize roots)
-          (map-upTo-cong rootsSize (rootAt (heldMade .work) (s .m) (levelAt (s .m) heldEntries 0)) (λ j. getD (heldNetwork s values care .roots) j 0)
+          (map-upTo-cong rootsSize (rootAt (heldMade .work) (s .m) (levelAt (s .m) heldEntries 0))
+          (λ j. getD (heldNetwork s values care .roots) j 0)
           (λ j h. root-given j))

@@ -3,7 +3,7 @@
 use mathlib.Core.Path.{_≡_, sym, ap, ap₂, _∙_, subst}
 use mathlib.Core.Bool.{not}
 use mathlib.Core.List.{List, _++_}
-use Prim.Native.Nat.{ℕ, _*_, _-_, _≤_, _<_}
+use Prim.Native.Nat.{ℕ, _+_, _*_, _-_, _≤_, _<_}
 use native.Mathlib.Omega.{arith}
 use lib.Dec.{T}
 use lib.ListN.{length, getD, drop}
@@ -11,12 +11,14 @@ use Rattle.table.specs.declared.State.{State}
 use Rattle.table.specs.State.{stageOf, isNothing}
 use Rattle.table.specs.Stream.{sum}
 use Rattle.table.specs.Calls.{over}
-use Rattle.fill.specs.Work.{traceWork, zeroWork, clearedWork}
+use Rattle.fill.specs.Work.{workSize, traceWork, zeroWork, clearedWork}
 use Rattle.fill.proofs.Holding.{work-size}
 use Rattle.network.specs.Lent.{numbersOf, rootsSize}
 use Rattle.network.specs.Build.{heldNetwork, wanted}
-use Rattle.network.specs.Levels.{Made, made, levelAt, levelsMade, rootAt}
-use Rattle.network.proofs.HeldRead.{kss, heldEntries, heldCounts, room, few-wanted, held-end, held-total, held-next, held-cells, held-work, held-roots}
+use Rattle.network.specs.inner.Levels.{storedLimit, Made, made, levelAt, levelsMade, rootAt}
+use Rattle.network.proofs.Offsets.{links-at}
+use Rattle.network.proofs.HeldRead.{kss, heldEntries, heldCounts, room, few-wanted, held-end, held-total, held-next, held-cells}
+use Rattle.network.proofs.HeldRead.{held-work, held-roots}
 use Rattle.network.proofs.WorkLinks.{trace-long, trace-past, clear-zero}
 
 module _ (s : State) (values care : List ℕ) (held : T (not (isNothing (stageOf s)))) (work : List ℕ) where
@@ -27,7 +29,8 @@ module _ (s : State) (values care : List ℕ) (held : T (not (isNothing (stageOf
       ∙ clear-zero (traceWork (kss s values care) work) work (trace-long (kss s values care) work (room s values care held))
       (trace-past (kss s values care) work (room s values care held))
 
-  module _ (cells entries counts work′ : List ℕ) (total : ℕ) (ee : entries ≡ heldEntries s values care) (ec : counts ≡ heldCounts s values care)
+  module _ (cells entries counts work′ : List ℕ) (total : ℕ) (ee : entries ≡ heldEntries s values care)
+      (ec : counts ≡ heldCounts s values care)
       (ew : work′ ≡ traceWork (kss s values care) work) (et : total ≡ wanted s values care) where
     made-held : (p k : ℕ) → levelsMade (s .m) entries counts p k (made work′ cells 0)
         ≡ levelsMade (s .m) (heldEntries s values care) (heldCounts s values care) p k (made (traceWork (kss s values care) work) cells 0)
@@ -38,8 +41,8 @@ module _ (s : State) (values care : List ℕ) (held : T (not (isNothing (stageOf
     end-held : levelAt (s .m) entries (s .n) ≡ levelAt (s .m) (heldEntries s values care) (s .n)
     end-held = ap (λ (x : List ℕ). levelAt (s .m) x (s .n)) ee
 
-    pub ready-end : levelAt (s .m) entries (s .n) < 65536
-    ready-end = omega (arith, end-held, held-end s values care held, room s values care held)
+    pub ready-end : levelAt (s .m) entries (s .n) ≤ workSize
+    ready-end = omega (arith, end-held, held-end s values care held, room s values care held, links-at, work-size)
 
     pub ready-long : levelAt (s .m) entries (s .n) ≤ length work′
     ready-long =
@@ -51,12 +54,13 @@ module _ (s : State) (values care : List ℕ) (held : T (not (isNothing (stageOf
           ap length ew,
           trace-long (kss s values care) work (room s values care held),
           work-size,
+          links-at,
         )
 
     pub ready-total : total ≡ sum (λ q. getD counts q 0) (s .n)
     ready-total = et ∙ held-total s values care held ∙ ap (λ (x : List ℕ). sum (λ q. getD x q 0) (s .n)) (sym ec)
 
-    pub ready-few : total ≤ 32767
+    pub ready-few : 2 * total + 1 < storedLimit
     ready-few = omega (arith, et, few-wanted s values care held)
 
     pub ready-next : (q : ℕ) → q < s .n → levelsMade (s .m) entries counts q (s .n - q) (made work′ cells 0) .next ≤ total

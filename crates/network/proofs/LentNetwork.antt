@@ -1,32 +1,36 @@
 -- Cells and roots that hold a network, read as a diagram, are that network; and of a held table's network demands 2 and 3 hold.
 -- Assumes nothing.
-use mathlib.Core.Path.{_≡_, refl, sym, ap, ap₂, _∙_}
+use mathlib.Core.Path.{_≡_, refl, sym, ap, ap₂, _∙_, subst}
 use mathlib.Core.Bool.{true, not}
 use mathlib.Core.List.{List, [], _∷_, _++_, map}
-use Prim.Native.Nat.{ℕ, zero, suc, _+_, _*_, _≤_, _<_}
+use mathlib.Core.Logic.{_↔_}
+use Prim.Native.Nat.{ℕ, zero, suc, _+_, _*_, _/_, _≤_, _<_}
 use native.Mathlib.Nat.{not-suc-le-zero, le-of-suc-le-suc}
 use native.Mathlib.Omega.{arith}
 use lib.Dec.{T, eqb→eq}
 use lib.ListN.{length, getD, take, drop, length-append}
 use lib.Seq.{ext-getD, length-take-le, getD-take}
 use Rattle.diagram.specs.Lists.{upTo}
-use Rattle.diagram.specs.Diagram.{Node}
+use Rattle.diagram.specs.Diagram.{Node, Diagram}
 use Rattle.diagram.specs.Network.{count}
-use Rattle.diagram.specs.Table.{networkOf, cost, Computes}
-use Rattle.diagram.specs.Demands.{FitsFrom}
+use Rattle.diagram.specs.Table.{networkOf, cost}
+use Rattle.diagram.specs.Demands.{Least, NoneFits}
 use Rattle.diagram.proofs.Evaluate.{formed-length}
 use Rattle.diagram.proofs.Demands.{kept, right, least-cost, fits}
 use Rattle.diagram.proofs.UpTo.{length-map-upTo, getD-map-upTo}
 use Rattle.table.specs.declared.State.{State}
+use Rattle.table.specs.declared.Outcome.{Outcome}
+use Rattle.table.specs.Answer.{value}
 use Rattle.table.specs.State.{orderOf, stageOf, isNothing}
 use Rattle.table.specs.Calls.{over}
 use Rattle.table.proofs.Held.{few-outputs, ordered}
 use Rattle.table.proofs.Over.{getD-over}
 use Rattle.fill.specs.Calls.{heldTable}
 use Rattle.network.specs.Lent.{lentNode, lentDiagram, numbersOf, rootsSize}
-use Rattle.network.specs.Build.{heldNetwork, wanted, Built, FitDecides}
+use Rattle.network.specs.Build.{heldNetwork, wanted, capacity, Built}
 use Rattle.network.proofs.RootTurns.{roots-size}
 use Rattle.network.proofs.HeldRead.{wanted-nodes}
+use Rattle.network.proofs.LevelsRead.{numbers-length}
 
 abbrev node : ℕ → ℕ → ℕ → Node
 node p l h = record { level = p; low = l; high = h }
@@ -61,6 +65,13 @@ taken l k rest h =
     (λ i a. let b : i < length l = omega (arith, e) in
     getD-take (length l) (over f k rest) i 0 b ∙ getD-over f k rest i 0 (omega arith))
 
+-- the cells that a build leaves have room for the network
+pub cells-enough : (s : State) (values care cells : List ℕ)
+    → wanted s values care ≤ length (numbersOf (heldNetwork s values care .nodes) ++ drop (3 * wanted s values care) cells) / 3
+cells-enough s values care cells =
+    let N = heldNetwork s values care .nodes in
+    omega (arith, length-append (numbersOf N) (drop (3 * wanted s values care) cells), numbers-length N, wanted-nodes s values care)
+
 module _ (s : State) (values care : List ℕ) (held : T (not (isNothing (stageOf s)))) where
   roots-length : length (heldNetwork s values care .roots) ≡ s .m
   unfolding heldNetwork
@@ -82,26 +93,36 @@ module _ (s : State) (values care : List ℕ) (held : T (not (isNothing (stageOf
       (ap (λ n. take n (over (λ j. getD (D .roots) j 0) rootsSize roots)) (sym roots-length)
       ∙ taken (D .roots) rootsSize roots (omega (arith, roots-length, few-outputs s held, roots-size)))
 
-  built-held : Built s values care (wanted s values care) (heldNetwork s values care)
-  unfolding heldNetwork wanted Computes
-  built-held =
-      let t = heldTable s values care in
-      let o = ordered s held in
-      record {
-        filled = right true t (orderOf s) .computes;
-        kept = kept true t (orderOf s) o;
-        written = sym (wanted-nodes s values care);
-        least = least-cost t (orderOf s) o;
-      }
+  -- demands 2 and 3's least of the held table's network, where an outcome answers and counts its cells
+  module _ (r : Outcome) (ea : value (r .answer) ≡ wanted s values care) (ec : r .state .count ≡ wanted s values care) where
+    built-held : (board : ℕ) → wanted s values care ≤ board → Built s values care r (heldNetwork s values care) board
+    unfolding heldNetwork wanted
+    built-held board h =
+        let t = heldTable s values care in
+        let o = ordered s held in
+        record {
+          solves = right true t (orderOf s);
+          kept = kept true t (orderOf s) o;
+          counted = sym (wanted-nodes s values care) ∙ sym ec;
+          answered = sym (wanted-nodes s values care) ∙ sym ea;
+          fits = omega (arith, wanted-nodes s values care);
+          least = subst (Least true t (orderOf s)) (sym ea) (least-cost t (orderOf s) o);
+        }
 
-  -- demand 2 and demand 3's least of the cells and the roots that a build leaves
-  pub built-lent : (count : ℕ) (cells roots cells′ roots′ : List ℕ) → count ≡ wanted s values care
-      → cells′ ≡ numbersOf (heldNetwork s values care .nodes) ++ drop (3 * wanted s values care) cells
-      → roots′ ≡ over (λ j. getD (heldNetwork s values care .roots) j 0) rootsSize roots
-      → Built s values care count (lentDiagram count (s .m) cells′ roots′)
-  built-lent count cells roots cells′ roots′ e ec er = rw (e, ec, er, lent-network cells roots) built-held
+    -- the same of the cells and the roots that a build leaves
+    pub built-lent : (cells roots cells′ roots′ : List ℕ)
+        → cells′ ≡ numbersOf (heldNetwork s values care .nodes) ++ drop (3 * wanted s values care) cells
+        → roots′ ≡ over (λ j. getD (heldNetwork s values care .roots) j 0) rootsSize roots
+        → Built s values care r (lentDiagram (r .state .count) (s .m) cells′ roots′) (capacity cells′)
+    built-lent cells roots cells′ roots′ dc dr =
+        let e : lentDiagram (r .state .count) (s .m) cells′ roots′ ≡ heldNetwork s values care =
+        ap (λ k. lentDiagram k (s .m) cells′ roots′) ec ∙ ap₂ (lentDiagram (wanted s values care) (s .m)) dc dr
+        ∙ lent-network cells roots in
+        subst (λ (D : Diagram). Built s values care r D (capacity cells′)) (sym e)
+        (built-held (capacity cells′) (subst (λ (c : List ℕ). wanted s values care ≤ capacity c) (sym dc)
+        (cells-enough s values care cells)))
 
   -- demand 3's fit
-  pub fit-held : (board : ℕ) → FitDecides s values care board
-  unfolding FitDecides FitsFrom wanted cost
+  pub fit-held : (board : ℕ) → NoneFits true (heldTable s values care) (orderOf s) board ↔ (board < wanted s values care)
+  unfolding wanted cost
   fit-held board = fits true (heldTable s values care) (orderOf s) (ordered s held) board

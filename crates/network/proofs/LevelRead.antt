@@ -1,5 +1,5 @@
 -- One level read: where the links ls of its entries stand in the work buffer, and the references of the entries below, the level's
--- references come to stand in the place of the first links, and its nodes are stored in the cells.
+-- references come to stand where the first links stood, and its nodes are stored in the cells.
 -- Assumes nothing.
 use mathlib.Core.Path.{_≡_, refl, sym, ap, ap₂, _∙_, subst}
 use mathlib.Core.Bool.{true, false}
@@ -14,12 +14,12 @@ use lib.Seq.{sets}
 use Rattle.diagram.specs.Fill.{Link}
 use Rattle.diagram.specs.Diagram.{inverts}
 use Rattle.diagram.specs.Network.{reference}
-use Rattle.diagram.specs.Trace.{sameLink, differing, linkRef, entryRefs, entryNodes}
+use Rattle.diagram.specs.inner.Trace.{sameLink, differing, linkRef, entryRefs, entryNodes}
 use Rattle.diagram.proofs.Bools.{split}
 use Rattle.diagram.proofs.Rising.{AllValid}
 use Rattle.fill.specs.Parts.{linkNumber}
 use Rattle.network.specs.Lent.{numbersOf}
-use Rattle.network.specs.Levels.{storedAt, putStored, refAt, Made, passed, noded, entryMade, levelMade}
+use Rattle.network.specs.inner.Levels.{storedAt, putStored, refAt, Made, passed, noded, entryMade, levelMade}
 use Rattle.network.proofs.Words.{Outside, same-word, outside-none, outside-join, outside-put, word-put}
 use Rattle.network.proofs.LinkRefs.{Links, Slots, links-kept, slots-kept, numbers-same, number-ref}
 
@@ -91,7 +91,8 @@ module _ (p below : ℕ) (refs : List ℕ) where
   slots-on : (i : ℕ) (w w′ : List ℕ) → i + 4 ≤ below → Outside w w′ i (i + 2) → Slots w below refs → Slots w′ below refs
   slots-on i w w′ h o = slots-kept w w′ below refs (λ j a. o .past j (omega arith))
 
-  joined-outside : (i n : ℕ) (w w′ w″ : List ℕ) → Outside w w′ i (i + 2) → Outside w′ w″ (i + 4) (i + 4 + 4 * n) → Outside w w″ i (i + 4 * suc n)
+  joined-outside : (i n : ℕ) (w w′ w″ : List ℕ) → Outside w w′ i (i + 2) → Outside w′ w″ (i + 4) (i + 4 + 4 * n)
+      → Outside w w″ i (i + 4 * suc n)
   joined-outside i n w w′ w″ = outside-join (omega arith) (omega arith) (omega arith) (omega arith)
 
   module _ (i : ℕ) (s t : Made) (k l : Link) (ls : List Link) (long : i + 1 < length (s .work)) where
@@ -131,7 +132,8 @@ module _ (p below : ℕ) (refs : List ℕ) where
         three : (n : ℕ) → 3 * (n + 1) ≡ suc (suc (suc (3 * n)))
         three n = omega arith
 
-  none : (i : ℕ) (ls : List Link) (s : Made) → pairsOf ls ≡ 0 → ((base : ℕ) → entryRefs true base refs ls ≡ []) → entryNodes true p refs ls ≡ [] → differing ls ≡ 0
+  none : (i : ℕ) (ls : List Link) (s : Made) → pairsOf ls ≡ 0 → ((base : ℕ) → entryRefs true base refs ls ≡ [])
+      → entryNodes true p refs ls ≡ [] → differing ls ≡ 0
       → LevelRead p i refs ls s (levelMade p below i 0 s)
   unfolding levelMade
   none i ls s e f g d =
@@ -152,17 +154,20 @@ module _ (p below : ℕ) (refs : List ℕ) where
       let el = number-ref (s .work) below refs a l (v .1 .0) in
       let on : (u : Made) → Outside (s .work) (u .work) i (i + 2) → length (u .work) ≡ length (s .work)
       → LevelRead p (i + 4) refs ls u (levelMade p below (i + 4) (pairsOf ls) u) =
-      λ u o n. level-read ls (i + 4) u (links-on i (s .work) (u .work) ls o (h .1 .1)) (slots-on i (s .work) (u .work) (omega arith) o a) (v .1 .1)
+      λ u o n. level-read ls (i + 4) u (links-on i (s .work) (u .work) ls o (h .1 .1)) (slots-on i (s .work) (u .work) (omega arith) o a)
+      (v .1 .1)
       (omega arith) (omega arith) in
       split (sameLink k l)
       (λ e. let u = passed i (linkRef refs k) s in
       let eu : entryMade p below i s ≡ u = entry-same i s k l (h .0) (h .1 .0) e ∙ ap (λ x. passed i x s) ek in
       let t = levelMade p below (i + 4) (pairsOf ls) u in
-      subst (LevelRead p i refs (k ∷ l ∷ ls) s) (sym (level-first p below i (pairsOf ls) s ∙ ap (levelMade p below (i + 4) (pairsOf ls)) eu))
+      subst (LevelRead p i refs (k ∷ l ∷ ls) s)
+      (sym (level-first p below i (pairsOf ls) s ∙ ap (levelMade p below (i + 4) (pairsOf ls)) eu))
       (step-same i s t k l ls (omega arith) e (on u (outside-put (s .work) i (linkRef refs k)) (simp length-set))))
       (λ e. let u = noded p i (linkRef refs k) (linkRef refs l) s in
       let eu : entryMade p below i s ≡ u = entry-other i s k l (h .0) (h .1 .0) e ∙ ap₂ (λ x y. noded p i x y s) ek el in
       let t = levelMade p below (i + 4) (pairsOf ls) u in
-      subst (LevelRead p i refs (k ∷ l ∷ ls) s) (sym (level-first p below i (pairsOf ls) s ∙ ap (levelMade p below (i + 4) (pairsOf ls)) eu))
+      subst (LevelRead p i refs (k ∷ l ∷ ls) s)
+      (sym (level-first p below i (pairsOf ls) s ∙ ap (levelMade p below (i + 4) (pairsOf ls)) eu))
       (step-other i s t k l ls (omega arith) e
       (on u (outside-put (s .work) i (reference true (s .next) (inverts true (linkRef refs k)))) (simp length-set))))

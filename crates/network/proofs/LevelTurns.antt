@@ -6,7 +6,7 @@ use Prim.Native.Nat.{ℕ, zero, suc, _+_, _-_, _≤_}
 use native.Mathlib.Omega.{arith}
 use lib.ListN.{length, getD}
 use Rattle.table.specs.Stream.{sum}
-use Rattle.network.specs.Levels.{Made, made, levelMade, levelAt, levelFrom, levelsMade}
+use Rattle.network.specs.inner.Levels.{Made, made, levelMade, levelAt, levelFrom, levelsMade}
 use Rattle.network.proofs.Entries.{level-work, level-cells}
 
 module _ (m : ℕ) (entries counts : List ℕ) where
@@ -34,7 +34,8 @@ module _ (m : ℕ) (entries counts : List ℕ) where
   no-levels n s = let z : n - n ≡ 0 = omega arith in rw z
 
   -- w and c are what the levels from p on, of n, make of s; level q is the one above
-  module _ (n p q : ℕ) (s : Made) (w c : List ℕ) (a : p ≡ q + 1) (h : p ≤ n) (ew : w ≡ L p (n - p) s .work) (ec : c ≡ L p (n - p) s .cells) where
+  module _ (n p q : ℕ) (s : Made) (w c : List ℕ) (a : p ≡ q + 1) (h : p ≤ n) (ew : w ≡ L p (n - p) s .work)
+      (ec : c ≡ L p (n - p) s .cells) where
     one-more : levelFrom m entries counts q (made w c 0) ≡ L q (n - q) s
     unfolding levelsMade
     one-more =

@@ -11,12 +11,12 @@ use lib.ListN.{length, getD, length-append}
 use lib.Seq.{sets}
 use Rattle.diagram.specs.Fill.{Link}
 use Rattle.diagram.specs.Diagram.{Node}
-use Rattle.diagram.specs.Trace.{differing, entryNodes, tracedRefs, tracedNodes}
+use Rattle.diagram.specs.inner.Trace.{differing, entryNodes, tracedRefs, tracedNodes}
 use Rattle.diagram.proofs.Rising.{AllValid}
 use Rattle.table.specs.Stream.{sum}
 use Rattle.fill.specs.Work.{allLinks}
 use Rattle.network.specs.Lent.{numbersOf}
-use Rattle.network.specs.Levels.{Made, made, levelMade, levelAt, levelsMade}
+use Rattle.network.specs.inner.Levels.{Made, made, levelMade, levelAt, levelsMade}
 use Rattle.network.proofs.Words.{Outside, outside-none, outside-join, sets-append}
 use Rattle.network.proofs.LinkRefs.{Links, Slots, links-kept, links-split}
 use Rattle.network.proofs.LevelRead.{pairsOf, pairs-half, refs-length, nodes-length, LevelRead, level-read}
@@ -59,7 +59,8 @@ module _ (m : ℕ) (entries counts : List ℕ) where
   -- where the levels below begin
   lower-read : {X : Type 0} (ls : List Link) (lss : List (List Link)) (p : ℕ) (s : Made) → Sized p (ls ∷ lss)
       → Links (s .work) (levelAt m entries p) (allLinks (ls ∷ lss)) → levelAt m entries (p + suc (length lss)) ≤ length (s .work)
-      → (Sized (suc p) lss → Links (s .work) (levelAt m entries (suc p)) (allLinks lss) → levelAt m entries (suc p + length lss) ≤ length (s .work) → X) → X
+      → (Sized (suc p) lss → Links (s .work) (levelAt m entries (suc p)) (allLinks lss)
+      → levelAt m entries (suc p + length lss) ≤ length (s .work) → X) → X
   lower-read ls lss p s size held long f =
       let k : suc p + length lss ≡ p + suc (length lss) = omega arith in
       let e : levelAt m entries p + 2 * length ls ≡ levelAt m entries (suc p) = omega (arith, size .0) in
@@ -68,7 +69,8 @@ module _ (m : ℕ) (entries counts : List ℕ) where
 
   -- one level more
   module _ (p : ℕ) (ls : List Link) (lss : List (List Link)) (s : Made) (size : Sized p (ls ∷ lss))
-      (held : Links (s .work) (levelAt m entries p) (allLinks (ls ∷ lss))) (long : levelAt m entries (p + suc (length lss)) ≤ length (s .work))
+      (held : Links (s .work) (levelAt m entries p) (allLinks (ls ∷ lss)))
+      (long : levelAt m entries (p + suc (length lss)) ≤ length (s .work))
       (lower : LevelsRead (suc p) lss s (levelsMade m entries counts (suc p) (length lss) s)) where
     abbrev t : Made
     t = levelsMade m entries counts (suc p) (length lss) s
@@ -95,7 +97,13 @@ module _ (m : ℕ) (entries counts : List ℕ) where
         (subst (λ b. Slots (t .work) (levelAt m entries (suc p)) (tracedRefs true b lss)) next-base (lower .slots))
         (subst (λ n. AllValid true n ls) (sym (traced-length (C p + differing ls) lss)) (size .2))
         (omega (arith, half))
-        (omega (arith, half, levels-work m entries counts (suc p) (length lss) s, at-rises m entries (suc p) (p + suc (length lss)) (omega arith))))
+        (omega (
+          arith,
+          half,
+          levels-work m entries counts (suc p) (length lss) s,
+          at-rises m entries (suc p) (p + suc (length lss))
+              (omega arith),
+        )))
 
     stored-all : levelMade p (levelAt m entries (suc p)) (levelAt m entries p) (getD entries p 0) u .cells
         ≡ sets (s .cells) (3 * C p) (numbersOf (entryNodes true p refs ls ++ tracedNodes true (suc p) (C p + differing ls) lss))
@@ -152,7 +160,8 @@ module _ (m : ℕ) (entries counts : List ℕ) where
       (lower-read ls lss p s size held long (levels-next lss (suc p) s) q (le-of-suc-le-suc h)))
 
   -- where the links end, and how many nodes there are
-  pub sized-end : (lss : List (List Link)) (p : ℕ) → Sized p lss → levelAt m entries (p + length lss) ≡ levelAt m entries p + 2 * length (allLinks lss)
+  pub sized-end : (lss : List (List Link)) (p : ℕ) → Sized p lss
+      → levelAt m entries (p + length lss) ≡ levelAt m entries p + 2 * length (allLinks lss)
   sized-end [] p size = rw (add-zero p) (omega arith)
   sized-end (ls ∷ lss) p size =
       let k : p + suc (length lss) ≡ suc p + length lss = omega arith in

@@ -13,12 +13,12 @@ use lib.ListN.{length, getD}
 use Rattle.diagram.specs.Lists.{digit}
 use Rattle.diagram.specs.Fill.{Link, const, entry}
 use Rattle.diagram.specs.Diagram.{inverts}
-use Rattle.diagram.specs.Trace.{opposite, sameLink, linkRef}
+use Rattle.diagram.specs.inner.Trace.{opposite, sameLink, linkRef}
 use Rattle.diagram.proofs.Bools.{split, to-T, beq→eq}
 use Rattle.diagram.proofs.Rising.{Valid, AllValid}
 use Rattle.diagram.proofs.Bits.{digit-le, eqb-digit}
 use Rattle.fill.specs.Parts.{linkNumber}
-use Rattle.network.specs.Levels.{storedAt, refAt}
+use Rattle.network.specs.inner.Levels.{storedAt, refAt}
 use Rattle.network.proofs.Words.{same-word}
 
 -- the opposite of a reference
@@ -38,7 +38,8 @@ pub ref-constant : (work : List ℕ) (below k : ℕ) → k < 2 → refAt work be
 unfolding refAt
 ref-constant work below k h = rw (lt-ltb k 2 h)
 
-pub ref-entry : (work : List ℕ) (below k : ℕ) → 2 ≤ k → refAt work below k ≡ opposite (inverts true k) (storedAt work (below + 4 * (k / 2 - 1)))
+pub ref-entry : (work : List ℕ) (below k : ℕ) → 2 ≤ k
+    → refAt work below k ≡ opposite (inverts true k) (storedAt work (below + 4 * (k / 2 - 1)))
 unfolding refAt
 ref-entry work below k h = rw (le-ltb k 2 h)
 
@@ -67,7 +68,8 @@ numbers-same (entry k i) (const w) = ne-eqb (2 * suc k + digit i) (digit w) (λ 
 numbers-same (entry k i) (entry l j) =
     split (eqb k l)
     (λ e. rw e (split (Bool·beq i j)
-    (λ q. rw q (eq-eqb (2 * suc k + digit i) (2 * suc l + digit j) (ap₂ (λ x y. 2 * suc x + digit y) (eqb-true k l e) (beq→eq i j (to-T q)))))
+    (λ q. rw q (eq-eqb (2 * suc k + digit i) (2 * suc l + digit j)
+    (ap₂ (λ x y. 2 * suc x + digit y) (eqb-true k l e) (beq→eq i j (to-T q)))))
     (λ q. rw q (ne-eqb (2 * suc k + digit i) (2 * suc l + digit j)
     (λ a. let k≡l = eqb-true k l e in eqb-false (digit i) (digit j) (digits-same i j ∙ q) (omega arith))))))
     (λ e. rw e (ne-eqb (2 * suc k + digit i) (2 * suc l + digit j)
@@ -119,7 +121,8 @@ number-ref w below rs h (entry k i) v =
     ref-entry w below (2 * suc k + digit i) (omega arith)
     ∙ ap₂ opposite (number-odd k i) (ap (λ x. storedAt w (below + 4 * x)) (number-index k i) ∙ slot-at w below rs h k (v .0))
 
-pub links-refs : (w : List ℕ) (below : ℕ) (rs : List ℕ) → Slots w below rs → (i : ℕ) (ks : List Link) → Links w i ks → AllValid true (length rs) ks
+pub links-refs : (w : List ℕ) (below : ℕ) (rs : List ℕ) → Slots w below rs → (i : ℕ) (ks : List Link) → Links w i ks
+    → AllValid true (length rs) ks
     → (j : ℕ) → j < length ks → refAt w below (storedAt w (i + 2 * j)) ≡ getD (map (linkRef rs) ks) j 0
 links-refs w below rs h i [] l v j a = absurd (not-suc-le-zero a)
 links-refs w below rs h i (k ∷ ks) l v zero a =

@@ -12,7 +12,7 @@ use Rattle.diagram.specs.Diagram.{Node}
 use Rattle.diagram.proofs.Lists.{all-mapped}
 use Rattle.diagram.proofs.UpTo.{length-map-upTo, getD-map-upTo}
 use Rattle.network.specs.Lent.{lentNode}
-use Rattle.network.specs.Cells.{lentCells}
+use Rattle.network.specs.inner.Cells.{lentCells}
 
 -- the counted cells
 

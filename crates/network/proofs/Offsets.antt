@@ -1,6 +1,6 @@
 -- Where the links of a level begin and how many nodes stand above it: sums over the levels above.
 -- Assumes nothing.
-use mathlib.Core.Path.{_≡_, ap, _∙_, subst}
+use mathlib.Core.Path.{_≡_, refl, ap, _∙_, subst}
 use mathlib.Core.List.{List}
 use Prim.Native.Nat.{ℕ, zero, suc, _+_, _*_, _-_, _≤_, _<_}
 use native.Mathlib.Nat.{le-refl, add-zero, add-suc}
@@ -9,7 +9,7 @@ use native.Mathlib.Omega.{arith}
 use lib.ListN.{getD}
 use Rattle.table.specs.Stream.{sum}
 use Rattle.fill.specs.Work.{linksAt}
-use Rattle.network.specs.Levels.{levelAt}
+use Rattle.network.specs.inner.Levels.{levelAt}
 
 pub sum-more : (f : ℕ → ℕ) (p : ℕ) → sum f (p + 1) ≡ sum f p + f p
 sum-more f p = rw add-one
@@ -27,8 +27,11 @@ sum-upto : (f : ℕ → ℕ) (p k : ℕ) → sum f p ≤ sum f (p + k)
 sum-upto f p zero = rw (add-zero p) (le-refl (sum f p))
 sum-upto f p (suc k) = rw (add-suc p k) (omega (arith, sum-upto f p k))
 
-pub first-at : (m : ℕ) (entries : List ℕ) → levelAt m entries 0 ≡ 8192 + 2 * m
+pub links-at : linksAt ≡ 8192
 unfolding linksAt
+links-at = refl
+
+pub first-at : (m : ℕ) (entries : List ℕ) → levelAt m entries 0 ≡ linksAt + 2 * m
 first-at m entries = omega arith
 
 pub next-at : (m : ℕ) (entries : List ℕ) (p : ℕ) → levelAt m entries (p + 1) ≡ levelAt m entries p + 4 * getD entries p 0

@@ -13,9 +13,11 @@ use lib.ListN.{length, getD, drop}
 use Rattle.diagram.specs.Table.{filled, cost}
 use Rattle.diagram.specs.Fill.{trace}
 use Rattle.diagram.specs.Network.{counts}
+use Rattle.diagram.specs.Bound.{mostOutputs}
 use Rattle.diagram.proofs.Bools.{split, to-T, absurd-T}
 use Rattle.table.specs.declared.Answer.{Answer}
-use Rattle.table.specs.declared.Answer.the-variants.{Done, BadLength, BadCheck, BadKind, BadInputs, BadOutputs, BadOrder, BadContent, NoRow, NoSuch, ShortBuffer, NoTable, NoNetwork, TooSmall, BadCells}
+use Rattle.table.specs.declared.Answer.the-variants.{Done, BadLength, BadCheck, BadKind, BadInputs, BadOutputs, BadOrder, BadContent}
+use Rattle.table.specs.declared.Answer.the-variants.{NoRow, NoSuch, ShortBuffer, NoTable, NoNetwork, TooSmall, BadCells}
 use Rattle.table.specs.declared.State.{State}
 use Rattle.table.specs.Answer.{unless, done, number, value}
 use Rattle.table.specs.State.{orderOf, stageOf, isNothing}
@@ -24,12 +26,13 @@ use Rattle.table.proofs.Answer.{the-type}
 use Rattle.fill.specs.Work.{workSize, traceWork, zeroWork}
 use Rattle.fill.specs.Calls.{heldTable, enough, countAnswer, levelsOf, linksWork, entryCounts, drawnOutputs, tenOf}
 use Rattle.network.specs.Lent.{numbersOf, rootsSize}
-use Rattle.network.specs.Levels.{networkState}
-use Rattle.network.specs.Build.{heldNetwork, wanted, capacity, buildAnswer, buildOutcome, buildRoots, buildCells, buildWork}
+use Rattle.network.specs.Build.{heldNetwork, wanted, capacity, longEnough, networkState, reachesBoard, buildAnswer, buildOutcome}
+use Rattle.network.specs.Build.{buildRoots, buildCells, buildWork}
 use Rattle.network.proofs.RootTurns.{roots-size}
 
 -- every answer but a success
-pub told-refused : (a : Answer) → OneOf (1 ∷ 2 ∷ 3 ∷ 4 ∷ 5 ∷ 6 ∷ 7 ∷ 8 ∷ 9 ∷ 10 ∷ 11 ∷ 12 ∷ 13 ∷ 14 ∷ []) (tagOf the-type a) → done a ≡ false
+pub told-refused : (a : Answer) → OneOf (1 ∷ 2 ∷ 3 ∷ 4 ∷ 5 ∷ 6 ∷ 7 ∷ 8 ∷ 9 ∷ 10 ∷ 11 ∷ 12 ∷ 13 ∷ 14 ∷ []) (tagOf the-type a)
+    → done a ≡ false
 told-refused (Done v) t = absurd (miss (1 ∷ 2 ∷ 3 ∷ 4 ∷ 5 ∷ 6 ∷ 7 ∷ 8 ∷ 9 ∷ 10 ∷ 11 ∷ 12 ∷ 13 ∷ 14 ∷ []) 0 tt t)
 told-refused BadLength t = refl
 told-refused BadCheck t = refl
@@ -69,21 +72,31 @@ module _ (s : State) (values care work roots cells : List ℕ) where
   isHeld = not (isNothing (stageOf s))
 
   -- 10 for the roots
-  pub roots-short : length roots < 16 → answered ≡ ShortBuffer
+  pub roots-short : length roots < mostOutputs → answered ≡ ShortBuffer
   unfolding buildAnswer
   roots-short h =
       rw (and-last (leb planeSize (length values)) (leb planeSize (length care)) (leb workSize (length work)) (leb rootsSize (length roots))
       (lt-leb rootsSize (length roots) (omega (arith, roots-size))))
 
-  module _ (h : 16 ≤ length roots) where
+  pub short-reaches : length roots < mostOutputs → reachesBoard s values care work roots ≡ false
+  unfolding reachesBoard
+  short-reaches h =
+      rw (and-last (leb planeSize (length values)) (leb planeSize (length care)) (leb workSize (length work)) (leb rootsSize (length roots))
+      (lt-leb rootsSize (length roots) (omega (arith, roots-size))))
+
+  module _ (h : mostOutputs ≤ length roots) where
+    all-long : longEnough values care work roots ≡ enough values care work
+    all-long =
+        and-more (leb planeSize (length values)) (leb planeSize (length care)) (leb workSize (length work)) (leb rootsSize (length roots))
+        (le-leb rootsSize (length roots) (omega (arith, roots-size)))
+
     -- then what the count refuses, then 23
     answer-is : answered
         ≡ unless (enough values care work) ShortBuffer
-        (unless isHeld NoTable (unless (leb (wanted s values care) (capacity cells)) (TooSmall (wanted s values care)) (Done (wanted s values care))))
+        (unless isHeld NoTable (unless (leb (wanted s values care) (capacity cells)) (TooSmall (wanted s values care))
+        (Done (wanted s values care))))
     unfolding buildAnswer
-    answer-is =
-        rw (and-more (leb planeSize (length values)) (leb planeSize (length care)) (leb workSize (length work)) (leb rootsSize (length roots))
-        (le-leb rootsSize (length roots) (omega (arith, roots-size))))
+    answer-is = rw all-long
 
     pub count-refused : done counted ≡ false → (answered ≡ counted) × ((done counted || eqb (number counted) 23) ≡ false)
     unfolding countAnswer
@@ -93,6 +106,13 @@ module _ (s : State) (values care work roots cells : List ℕ) where
         (λ b. absurd-T {b = true} tt (rw (a, b) at e))
         (λ b. (answer-is ∙ rw (a, b), rw (a, b))))
         (λ a. (answer-is ∙ rw a, rw a))
+
+    pub refused-reaches : done counted ≡ false → reachesBoard s values care work roots ≡ false
+    unfolding countAnswer reachesBoard
+    refused-reaches e =
+        split (enough values care work)
+        (λ a. split isHeld (λ b. absurd-T {b = true} tt (rw (a, b) at e)) (λ b. rw (all-long, a, b)))
+        (λ a. rw (all-long, a))
 
     -- where the count is a success, the board decides
 
@@ -118,7 +138,8 @@ module _ (s : State) (values care work roots cells : List ℕ) where
         (λ a. let q : ShortBuffer ≡ Done (wanted s values care) = rw a at e in
         let z : _≡_ {A = ℕ} 10 0 = ap number q in absurd (omega arith))
 
-    pub too-small : counted ≡ Done (wanted s values care) → capacity cells < wanted s values care → answered ≡ TooSmall (wanted s values care)
+    pub too-small : counted ≡ Done (wanted s values care) → capacity cells < wanted s values care
+        → answered ≡ TooSmall (wanted s values care)
     too-small e b = both e ∙ rw (lt-leb (wanted s values care) (capacity cells) b)
 
     pub room-enough : counted ≡ Done (wanted s values care) → wanted s values care ≤ capacity cells → answered ≡ Done (wanted s values care)
@@ -143,7 +164,8 @@ module _ (s : State) (values care work roots cells : List ℕ) where
   unfolding buildWork
   work-kept x e d = rw (e, d)
 
-  pub work-cleared : (x : Answer) → answered ≡ x → (done x || eqb (number x) 23) ≡ true → zeroWork work ≡ buildWork s values care work roots cells
+  pub work-cleared : (x : Answer) → answered ≡ x → (done x || eqb (number x) 23) ≡ true
+      → zeroWork work ≡ buildWork s values care work roots cells
   unfolding buildWork
   work-cleared x e d = rw (e, d)
 
@@ -159,7 +181,8 @@ module _ (s : State) (values care work roots cells : List ℕ) where
     unfolding buildRoots
     done-roots = rw e
 
-    pub done-cells : numbersOf (heldNetwork s values care .nodes) ++ drop (3 * wanted s values care) cells ≡ buildCells s values care work roots cells
+    pub done-cells : numbersOf (heldNetwork s values care .nodes) ++ drop (3 * wanted s values care) cells
+        ≡ buildCells s values care work roots cells
     unfolding buildCells
     done-cells = rw e
 

@@ -12,6 +12,7 @@ use lib.ListN.{length, getD, take}
 use lib.Pow.{pow-add, pow-mono, high, field}
 use lib.Seq.{length-take-le, getD-take}
 use Rattle.diagram.specs.Lists.{digit, all}
+use Rattle.diagram.specs.Bound.{mostOutputs}
 use Rattle.diagram.specs.Diagram.{Diagram, refers, gives}
 use Rattle.diagram.specs.Order.{rowUnder}
 use Rattle.diagram.proofs.Bools.{split, to-T}
@@ -20,7 +21,7 @@ use Rattle.diagram.proofs.Numbers.{below-other}
 use Rattle.diagram.proofs.Bits.{one-shifted}
 use Rattle.table.specs.Stream.{packed}
 use Rattle.fill.proofs.Gathered.{gathered-lt}
-use Rattle.network.specs.Cells.{lentCells, outputAt}
+use Rattle.network.specs.inner.Cells.{lentCells, outputAt}
 
 -- each of the first m roots is the diagram's own
 pub root-own : (D : Diagram) (m : ℕ) (roots : List ℕ) → m ≤ length roots → T (all (refers true D) (take m roots))
@@ -39,10 +40,11 @@ outputs-below m f = gathered-lt m f
 
 -- output j added to the outputs before it
 module _ (f : ℕ → Bool) (j total : ℕ) (so-far : total ≡ packed j f) where
-  pub output-small : j < 16 → (total < 32768) × (2 ^ j ≤ 32768)
-  output-small h = let k : 2 ^ j ≤ 2 ^ 15 = pow-mono {i = j} {j = 15} (omega arith) in (omega (arith, outputs-below j f), k)
+  pub output-small : j < mostOutputs → (total < 2 ^ mostOutputs) × (2 ^ j ≤ 2 ^ mostOutputs)
+  output-small h = let k : 2 ^ j ≤ 2 ^ mostOutputs =
+      pow-mono {i = j} {j = mostOutputs} (omega arith) in (omega (arith, outputs-below j f), k)
 
-  pub output-one : j < 16 → f j ≡ true → total + 1 * 2 ^ j % 2 ^ 64 ≡ packed (j + 1) f
+  pub output-one : j < mostOutputs → f j ≡ true → total + 1 * 2 ^ j % 2 ^ 64 ≡ packed (j + 1) f
   output-one h e = rw (add-one, e) (omega (arith, one-shifted j (omega arith)))
 
   pub output-zero : f j ≡ false → total ≡ packed (j + 1) f
@@ -54,7 +56,8 @@ above-kept : (x d j m : ℕ) → j < m → (x + d * 2 ^ m) / 2 ^ j % 2 ≡ x / 2
 above-kept x d j m h =
     let k : m ≡ (m - (1 + j)) + (1 + j) = omega arith in
     let e : x + d * 2 ^ m ≡ x + d * 2 ^ (m - (1 + j)) * 2 ^ (1 + j) =
-    ap (λ (y : ℕ). x + d * y) (ap (λ (i : ℕ). 2 ^ i) k ∙ pow-add 2 (m - (1 + j)) (1 + j)) ∙ ap (λ (y : ℕ). x + y) (sym (mul-assoc d (2 ^ (m - (1 + j))) (2 ^ (1 + j)))) in
+    ap (λ (y : ℕ). x + d * y) (ap (λ (i : ℕ). 2 ^ i) k ∙ pow-add 2 (m - (1 + j)) (1 + j))
+    ∙ ap (λ (y : ℕ). x + y) (sym (mul-assoc d (2 ^ (m - (1 + j))) (2 ^ (1 + j)))) in
     sym (field (x + d * 2 ^ m) 1 j)
     ∙ ap (λ (y : ℕ). y / 2 ^ j) (ap (λ (y : ℕ). y % 2 ^ (1 + j)) e ∙ add-mul-mod-self-right x (d * 2 ^ (m - (1 + j))) (2 ^ (1 + j)))
     ∙ field x 1 j

@@ -13,7 +13,7 @@ use Rattle.diagram.specs.Lists.{all, upTo}
 use Rattle.diagram.specs.Diagram.{later, refers, nodeAt, nodeGood, wellFormed}
 use Rattle.diagram.proofs.Numbers.{all-upTo-fails, all-upTo-more}
 use Rattle.network.specs.Lent.{lentNode, lentDiagram}
-use Rattle.network.specs.Cells.{lentCells}
+use Rattle.network.specs.inner.Cells.{lentCells}
 use Rattle.network.proofs.Nodes.{lent-length, lent-at, all-nodes, all-first}
 
 -- cell i, from 0, and root j, by their tests
@@ -95,7 +95,8 @@ module _ (count : ℕ) (cells : List ℕ) where
     -- both tests make the one of a well-formed diagram
 
     pub both-tests : (n : ℕ) → wellFormed true n m (lentDiagram count m cells roots)
-        ≡ all (refers true (lentCells count cells)) (take m roots) && all (nodeGood true n (lentCells count cells)) (lentCells count cells .nodes)
+        ≡ all (refers true (lentCells count cells)) (take m roots) && all (nodeGood true n (lentCells count cells))
+        (lentCells count cells .nodes)
     unfolding wellFormed lentDiagram lentCells
     both-tests n = rw (eq-eqb (length (take m roots)) m (length-take-le m roots fit))
 

@@ -10,7 +10,7 @@ use native.Mathlib.Omega.{arith}
 use lib.ListN.{length, getD, length-append}
 use Rattle.diagram.specs.Tree.{Tree, halves}
 use Rattle.diagram.specs.Fill.{Row, Link, const, entry, level, trace}
-use Rattle.diagram.specs.Trace.{differing}
+use Rattle.diagram.specs.inner.Trace.{differing}
 use Rattle.diagram.proofs.Tree.{length-halves}
 use Rattle.diagram.proofs.Fill.{links-length}
 use Rattle.diagram.proofs.Levels.{linksOf, below, below-length, lower, trace-lower}
@@ -50,7 +50,8 @@ trace-sized m entries counts zero p fs f g = tt
 trace-sized m entries counts (suc d) p fs f g =
     let e = trace-lower true d (next fs) in
     let f₀ = ap (λ x. getD entries x 0) (sym (add-zero p)) ∙ f 0 (suc-le-suc zero-le) in
-    let g₀ = ap (λ x. getD counts x 0) (sym (add-zero p)) ∙ g 0 (suc-le-suc zero-le) ∙ ap (λ (l : List (List Link)). getD (map differing l) 0 0) e in
+    let g₀ = ap (λ x. getD counts x 0) (sym (add-zero p)) ∙ g 0 (suc-le-suc zero-le)
+    ∙ ap (λ (l : List (List Link)). getD (map differing l) 0 0) e in
     rw e (
       next-length fs ∙ ap (λ x. 2 * x) (sym f₀),
       g₀,
@@ -81,15 +82,18 @@ top-few : (lss : List (List Link)) → topEntries lss ≤ length (allLinks lss)
 top-few [] = zero-le
 top-few (ls ∷ lss) = omega (arith, pairs-few ls, length-append ls (allLinks lss))
 
-pub trace-valid : (d n : ℕ) (fs : List (Tree Row d)) → length (allLinks (trace true d fs)) ≤ n → AllValid true n (allLinks (trace true d fs))
+pub trace-valid : (d n : ℕ) (fs : List (Tree Row d)) → length (allLinks (trace true d fs)) ≤ n
+    → AllValid true n (allLinks (trace true d fs))
 trace-valid zero n fs h =
     let e = trace-lower true zero fs in
     rw e (valid-append n (linksOf true fs) [] (valid-more 0 n (linksOf true fs) zero-le (links-valid zero fs)) tt)
 trace-valid (suc d) n fs h =
     let e = trace-lower true (suc d) fs in
     let h′ : length (linksOf true fs ++ allLinks (lower true (suc d) fs)) ≤ n = rw e at h in
-    let few : length (allLinks (lower true (suc d) fs)) ≤ n = omega (arith, length-append (linksOf true fs) (allLinks (lower true (suc d) fs))) in
+    let few : length (allLinks (lower true (suc d) fs)) ≤ n =
+    omega (arith, length-append (linksOf true fs) (allLinks (lower true (suc d) fs))) in
     rw e
     (valid-append n (linksOf true fs) (allLinks (lower true (suc d) fs))
-    (valid-more (topEntries (lower true (suc d) fs)) n (linksOf true fs) (le-trans (top-few (lower true (suc d) fs)) few) (links-valid (suc d) fs))
+    (valid-more (topEntries (lower true (suc d) fs)) n (linksOf true fs) (le-trans (top-few (lower true (suc d) fs)) few)
+    (links-valid (suc d) fs))
     (trace-valid d n (next fs) few))

@@ -8,7 +8,7 @@ use native.Mathlib.Nat.{add-zero}
 use native.Mathlib.Omega.{arith}
 use lib.ListN.{length, getD, set, length-set}
 use lib.Seq.{sets, getD-set-same, getD-set-other, set-comm}
-use Rattle.network.specs.Levels.{storedAt, putStored}
+use Rattle.network.specs.inner.Levels.{storedAt, putStored}
 
 -- the bytes below a and from b on are the same
 pub record Outside (w w′ : List ℕ) (a b : ℕ) : Type 0 where
@@ -21,7 +21,8 @@ same-word w w′ i low high = ap₂ (λ x y. x + 256 * y) low high
 pub outside-none : (w : List ℕ) (a b : ℕ) → Outside w w a b
 outside-none w a b = record { under = λ j h. refl; past = λ j h. refl }
 
-pub outside-join : {w w′ w″ : List ℕ} {a b c d e f : ℕ} → e ≤ a → e ≤ c → b ≤ f → d ≤ f → Outside w w′ a b → Outside w′ w″ c d → Outside w w″ e f
+pub outside-join : {w w′ w″ : List ℕ} {a b c d e f : ℕ} → e ≤ a → e ≤ c → b ≤ f → d ≤ f → Outside w w′ a b → Outside w′ w″ c d
+    → Outside w w″ e f
 outside-join {w} {w′} {w″} {a} {b} {c} {d} {e} {f} ha hc hb hd o o′ =
     record {
       under = λ j h. o′ .under j (omega arith) ∙ o .under j (omega arith);

@@ -15,20 +15,17 @@ use Rattle.fill.specs.Parts.{linkNumber}
 use Rattle.fill.specs.Work.{workSize, linksAt, linkBytes, allLinks, traceWork, zeroWork, clearedWork}
 use Rattle.fill.proofs.Long.{length-links}
 use Rattle.fill.proofs.Holding.{work-size}
-use Rattle.network.specs.Levels.{storedAt}
+use Rattle.network.specs.inner.Levels.{storedLimit, storedAt}
+use Rattle.network.proofs.Offsets.{links-at}
 use Rattle.network.proofs.Words.{Outside}
 use Rattle.network.proofs.LinkRefs.{Links}
 
-pub links-at : linksAt ≡ 8192
-unfolding linksAt
-links-at = refl
-
 -- a link to one of few entries has a number of two bytes
-number-small : (k : Link) → Valid true 4350 k → linkNumber k < 65536
+number-small : (k : Link) → Valid true 4350 k → linkNumber k < storedLimit
 number-small (const b) v = omega (arith, digit-le b)
 number-small (entry k i) v = omega (arith, digit-le i)
 
-bytes-word : (p : List ℕ) (n : ℕ) (q : List ℕ) → n < 65536 → storedAt (p ++ (n % 256 ∷ n / 256 % 256 ∷ q)) (length p) ≡ n
+bytes-word : (p : List ℕ) (n : ℕ) (q : List ℕ) → n < storedLimit → storedAt (p ++ (n % 256 ∷ n / 256 % 256 ∷ q)) (length p) ≡ n
 bytes-word p n q h =
     let a = n % 256 in
     let b = n / 256 % 256 in
@@ -44,7 +41,8 @@ bytes-links p (k ∷ ks) q v =
     let n = linkNumber k in
     let a = n % 256 in
     let b = n / 256 % 256 in
-    let more : (p ++ a ∷ b ∷ []) ++ (linkBytes ks ++ q) ≡ p ++ (a ∷ b ∷ (linkBytes ks ++ q)) = append-assoc p (a ∷ b ∷ []) (linkBytes ks ++ q) in
+    let more : (p ++ a ∷ b ∷ []) ++ (linkBytes ks ++ q) ≡ p ++ (a ∷ b ∷ (linkBytes ks ++ q)) =
+    append-assoc p (a ∷ b ∷ []) (linkBytes ks ++ q) in
     let long : length (p ++ a ∷ b ∷ []) ≡ length p + 2 = length-append p (a ∷ b ∷ []) in (
       bytes-word p n (linkBytes ks ++ q) (number-small k (v .0)),
       subst (λ (w : List ℕ). Links w (length p + 2) ks) more
@@ -57,7 +55,8 @@ module _ (kss : List (List Link)) (work : List ℕ) (room : length (allLinks kss
   trace-links v =
       let front : List ℕ = replicate linksAt 0 in
       let back : List ℕ = replicate (workSize - linksAt - length (linkBytes (allLinks kss))) 0 ++ drop workSize work in
-      subst (λ i. Links (front ++ (linkBytes (allLinks kss) ++ back)) i (allLinks kss)) (length-replicate {A = ℕ} linksAt 0) (bytes-links front (allLinks kss) back v)
+      subst (λ i. Links (front ++ (linkBytes (allLinks kss) ++ back)) i (allLinks kss)) (length-replicate {A = ℕ} linksAt 0)
+      (bytes-links front (allLinks kss) back v)
 
   pub trace-long : workSize ≤ length (traceWork kss work)
   unfolding traceWork

@@ -1,22 +1,20 @@
 -- Building (document 01, sections 2, 4 and 7): 10, 21, then 23 with the cells wanted; else section 4's network.
 -- Assumes nothing.
 use mathlib.Core.Path.{_≡_}
-use mathlib.Core.Bool.{true, cond, not, _&&_, _||_}
+use mathlib.Core.Bool.{Bool, true, cond, not, _&&_, _||_}
 use mathlib.Core.List.{List, _++_}
-use mathlib.Core.Logic.{_↔_}
-use Prim.Native.Nat.{ℕ, _*_, _/_, _<_, _≤_, _^_}
+use Prim.Native.Nat.{ℕ, _*_, _/_}
 use lib.Dec.{eqb, leb}
 use lib.ListN.{length, getD, drop}
-use Rattle.diagram.specs.Diagram.{Diagram, gives}
-use Rattle.diagram.specs.Order.{rowUnder}
-use Rattle.diagram.specs.Table.{filledBit, networkOf, cost, Solves, Fits}
+use Rattle.diagram.specs.Diagram.{Diagram}
+use Rattle.diagram.specs.Table.{networkOf, cost, Solves, Fits}
 use Rattle.diagram.specs.Demands.{Kept, Least}
 use Rattle.table.specs.declared.Answer.{Answer}
 use Rattle.table.specs.declared.Answer.the-variants.{Done, ShortBuffer, NoTable, TooSmall}
 use Rattle.table.specs.declared.Outcome.{Outcome}
 use Rattle.table.specs.declared.State.{State}
 use Rattle.table.specs.declared.Stage.the-variants.{Network}
-use Rattle.table.specs.Answer.{unless, done, number}
+use Rattle.table.specs.Answer.{unless, done, number, value}
 use Rattle.table.specs.State.{orderOf, stageOf, isNothing}
 use Rattle.table.specs.Calls.{planeSize, over}
 use Rattle.fill.specs.Work.{workSize, zeroWork}
@@ -35,19 +33,30 @@ wanted s values care = cost (heldTable s values care) (orderOf s)
 abbrev pub capacity : List ℕ → ℕ
 capacity cells = length cells / 3
 
+-- no buffer is short: 10
+abbrev pub longEnough : List ℕ → List ℕ → List ℕ → List ℕ → Bool
+longEnough values care work roots =
+    leb planeSize (length values) && (leb planeSize (length care) && (leb workSize (length work) && leb rootsSize (length roots)))
+
+-- the checks before 23 are passed: no buffer is short, and a table is held
+unfoldable pub reachesBoard : State → List ℕ → List ℕ → List ℕ → List ℕ → Bool
+reachesBoard s values care work roots = longEnough values care work roots && not (isNothing (stageOf s))
+
 unfoldable pub buildAnswer : State → List ℕ → List ℕ → List ℕ → List ℕ → List ℕ → Answer
 buildAnswer s values care work roots cells =
-    unless (leb planeSize (length values) && (leb planeSize (length care) && (leb workSize (length work) && leb rootsSize (length roots)))) ShortBuffer
+    unless (longEnough values care work roots) ShortBuffer
     (unless (not (isNothing (stageOf s))) NoTable
     (unless (leb (wanted s values care) (capacity cells)) (TooSmall (wanted s values care)) (Done (wanted s values care))))
+
+-- the state with a network of so many cells: 'Build makes it network'
+abbrev pub networkState : State → ℕ → State
+networkState s count = record { n = s .n; m = s .m; order = s .order; count = count; stage = Network }
 
 unfoldable pub buildOutcome : State → List ℕ → List ℕ → List ℕ → List ℕ → List ℕ → Outcome
 buildOutcome s values care work roots cells =
     record {
       answer = buildAnswer s values care work roots cells;
-      state =
-          cond (done (buildAnswer s values care work roots cells))
-          (record { n = s .n; m = s .m; order = s .order; count = wanted s values care; stage = Network }) s;
+      state = cond (done (buildAnswer s values care work roots cells)) (networkState s (wanted s values care)) s;
     }
 
 -- 'Every call that writes cells writes all 16 roots (unused ones zero) and leaves cells past the new count unchanged'
@@ -67,17 +76,15 @@ buildWork s values care work roots cells =
     cond (done (buildAnswer s values care work roots cells) || eqb (number (buildAnswer s values care work roots cells)) 23)
     (zeroWork work) work
 
--- Demand 2 of the cells written, and demand 3's least, where the build succeeded: D is what they are as a diagram
-pub record Built (s : State) (values care : List ℕ) (count : ℕ) (D : Diagram) : Type 0 where
-  -- every row gives the filled table at every output's root, and the drawn value where it is cared
-  pub filled : (j r : ℕ) → j < s .m → r < 2 ^ s .n
-      → gives true D (rowUnder (s .n) (orderOf s) r) (s .n) (getD (D .roots) j 0) ≡ filledBit true (heldTable s values care) (orderOf s) j r
+-- Demands 2 and 3 after a success: r is what the call answers, D the diagram in the lent cells and roots, and this the board
+pub record Built (s : State) (values care : List ℕ) (r : Outcome) (D : Diagram) (board : ℕ) : Type 0 where
+  -- well-formed, one root an output, and it computes the filled table
+  pub solves : Solves true (heldTable s values care) (orderOf s) D
+  -- cared rows as drawn
   pub kept : Kept true (heldTable s values care) (orderOf s)
-  -- the cells written are as many as are answered, and no diagram for the filled table has fewer
-  pub written : length (D .nodes) ≡ count
-  pub least : Least true (heldTable s values care) (orderOf s) count
-
--- demand 3's fit: some diagram for the filled table fits the board exactly when the build isn't refused with 23
-unfoldable pub FitDecides : State → List ℕ → List ℕ → ℕ → Type 0
-FitDecides s values care board =
-    ((D : Diagram) × Solves true (heldTable s values care) (orderOf s) D × Fits D board) ↔ (wanted s values care ≤ board)
+  -- its cells are the state's count, 'which build also answers', and the board has them all
+  pub counted : length (D .nodes) ≡ r .state .count
+  pub answered : length (D .nodes) ≡ value (r .answer)
+  pub fits : Fits D board
+  -- no diagram for the filled table has fewer
+  pub least : Least true (heldTable s values care) (orderOf s) (value (r .answer))

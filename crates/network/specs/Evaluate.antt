@@ -2,10 +2,9 @@
 -- Assumes nothing.
 use mathlib.Core.Bool.{Bool, true, _&&_}
 use mathlib.Core.List.{List}
-use Prim.Native.Nat.{ℕ, zero, suc, _+_, _*_, _/_, _^_}
+use Prim.Native.Nat.{ℕ, _/_, _^_}
 use lib.Dec.{ltb, leb}
 use lib.ListN.{length, getD}
-use Rattle.diagram.specs.Lists.{digit}
 use Rattle.diagram.specs.Diagram.{wellFormed, gives}
 use Rattle.diagram.specs.Order.{rowUnder}
 use Rattle.table.specs.declared.Answer.{Answer}

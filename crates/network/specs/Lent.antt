@@ -11,6 +11,10 @@ use Rattle.diagram.specs.Diagram.{Node, Diagram}
 abbrev pub lentNode : List ℕ → ℕ → Node
 lentNode cells i = record { level = getD cells (3 * i) 0; low = getD cells (3 * i + 1) 0; high = getD cells (3 * i + 2) 0 }
 
+-- what each number of a cell and each root is below: 'three 16-bit numbers', 'roots of 16 bits'
+abbrev pub numberLimit : ℕ
+numberLimit = 65536
+
 -- the counted cells and the first m roots
 unfoldable pub lentDiagram : ℕ → ℕ → List ℕ → List ℕ → Diagram
 lentDiagram count m cells roots = record { nodes = map (lentNode cells) (upTo count); roots = take m roots }
@@ -20,6 +24,6 @@ abbrev pub numbersOf : List Node → List ℕ
 numbersOf [] = []
 numbersOf (c ∷ cs) = c .level ∷ c .low ∷ c .high ∷ numbersOf cs
 
--- how many roots are lent
+-- how many roots are lent: '16 roots'; src/lib.rt has the constant, ROOTS
 unfoldable pub rootsSize : ℕ
 rootsSize = mostOutputs

@@ -1,5 +1,4 @@
 pub mod Lent
 pub mod Evaluate
-pub mod Cells
-pub mod Levels
 pub mod Build
+pub mod inner

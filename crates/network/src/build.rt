@@ -12,17 +12,21 @@ use table::Outcome;
 use table::Stage;
 use table::State;
 ghost use mathlib.Core.Path.{_≡_};
-ghost use mathlib.Core.Bool.{true, _||_};
+ghost use mathlib.Core.Bool.{true};
+ghost use mathlib.Core.Logic.{_↔_};
 ghost use Prim.Native.Nat.{ℕ, _+_, _-_, _*_, _<_, _≤_};
-ghost use lib.Dec.{eqb};
 ghost use lib.ListN.{length, getD};
+ghost use Rattle.diagram.specs.Bound.{mostVariables, mostOutputs};
+ghost use Rattle.diagram.specs.Demands.{NoneFits};
 ghost use Rattle.table.specs.Answer.{done, number};
+ghost use Rattle.table.specs.State.{orderOf};
 ghost use Rattle.table.specs.Stream.{sum};
 ghost use Rattle.table.specs.Calls.{over};
-ghost use Rattle.fill.specs.Work.{clearedWork};
+ghost use Rattle.fill.specs.Work.{workSize, clearedWork};
+ghost use Rattle.fill.specs.Calls.{heldTable};
 ghost use Rattle.network.specs.Lent.{lentDiagram, rootsSize};
-ghost use Rattle.network.specs.Levels.{made, levelAt, levelsMade, rootAt, networkState};
-ghost use Rattle.network.specs.Build.{capacity, buildOutcome, buildRoots, buildCells, buildWork, Built, FitDecides};
+ghost use Rattle.network.specs.inner.Levels.{storedLimit, made, levelAt, levelsMade, rootAt};
+ghost use Rattle.network.specs.Build.{capacity, reachesBoard, networkState, buildOutcome, buildRoots, buildCells, buildWork, Built};
 
 // Reads the levels and the outputs off the links in the work buffer, and clears it.
 fn lay_out(
@@ -35,8 +39,9 @@ fn lay_out(
     roots: &mut [u16],
     cells: &mut [u16],
 )
-    requires { ⌜ (n ≤ 10) × (m ≤ 16) × (levelAt m entries n < 65536) × (levelAt m entries n ≤ length (now work)) ⌝ }
-    requires { ⌜ (total ≡ sum (λ q. getD counts q 0) n) × (total ≤ 32767) × (3 * total ≤ length (now cells)) × (16 ≤ length (now roots)) ⌝ }
+    requires { ⌜ (n ≤ mostVariables) × (m ≤ mostOutputs) × (levelAt m entries n ≤ workSize) × (levelAt m entries n ≤ length (now work)) ⌝ }
+    requires { ⌜ (total ≡ sum (λ q. getD counts q 0) n) × (2 * total + 1 < storedLimit) × (3 * total ≤ length (now cells)) ⌝ }
+    requires { ⌜ rootsSize ≤ length (now roots) ⌝ }
     requires { ⌜ ((q : ℕ) → q < n → levelsMade m entries counts q (n - q) (made (now work) (now cells) 0) .next ≤ total) ⌝ }
     ensures work { λ _.
         ⌜ now (work .exit) ≡ clearedWork (levelsMade m entries counts 0 n (made (now (work .entry)) (now (cells .entry)) 0) .work) ⌝ }
@@ -89,11 +94,12 @@ pub fn build(
         ⌜ now (work .exit)
         ≡ buildWork state (now (values .entry)) (now (care .entry)) (now (work .entry)) (now (roots .entry)) (now (cells .entry)) ⌝ }
     ensures built { λ r.
-        ⌜ (done (r .answer) ≡ true → Built state (now (values .entry)) (now (care .entry)) (r .state .count)
-        (lentDiagram (r .state .count) (state .m) (now (cells .exit)) (now (roots .exit)))) ⌝ }
+        ⌜ (done (r .answer) ≡ true → Built state (now (values .entry)) (now (care .entry)) r
+        (lentDiagram (r .state .count) (state .m) (now (cells .exit)) (now (roots .exit))) (capacity (now (cells .exit)))) ⌝ }
     ensures fit { λ r.
-        ⌜ ((done (r .answer) || eqb (number (r .answer)) 23) ≡ true
-        → FitDecides state (now (values .entry)) (now (care .entry)) (capacity (now (cells .entry)))) ⌝ }
+        ⌜ (reachesBoard state (now (values .entry)) (now (care .entry)) (now (work .entry)) (now (roots .entry)) ≡ true
+        → (number (r .answer) ≡ 23)
+        ↔ NoneFits true (heldTable state (now (values .entry)) (now (care .entry))) (orderOf state) (capacity (now (cells .entry)))) ⌝ }
 {
     if roots.len() < ROOTS {
         return Outcome {

@@ -5,12 +5,12 @@ ghost use Prim.Native.Nat.{_/_, _≤_, _<_};
 ghost use lib.ListN.{length, getD, take};
 ghost use Rattle.diagram.specs.Lists.{all};
 ghost use Rattle.diagram.specs.Diagram.{later, refers, nodeGood, wellFormed};
-ghost use Rattle.network.specs.Lent.{lentNode, lentDiagram};
-ghost use Rattle.network.specs.Cells.{lentCells};
+ghost use Rattle.network.specs.Lent.{numberLimit, lentNode, lentDiagram};
+ghost use Rattle.network.specs.inner.Cells.{lentCells};
 
 // Number i, or 0 past the end.
 pub fn lent_number(numbers: &[u16], i: usize) -> usize
-    ensures { λ r. ⌜ (r ≡ getD (now (numbers .entry)) i 0) × (r < 65536) ⌝ }
+    ensures { λ r. ⌜ (r ≡ getD (now (numbers .entry)) i 0) × (r < numberLimit) ⌝ }
 {
     if i < numbers.len() {
         numbers[i] as usize

@@ -8,8 +8,9 @@ ghost use lib.Dec.{T};
 ghost use lib.ListN.{take};
 ghost use Rattle.diagram.specs.Lists.{flip};
 ghost use Rattle.diagram.specs.Diagram.{edge, nodeAt, refers, gives};
+ghost use Rattle.diagram.specs.Bound.{mostVariables};
 ghost use Rattle.diagram.specs.Order.{isOrder, rowUnder};
-ghost use Rattle.network.specs.Cells.{lentCells, Followable, Rooted, outputAt};
+ghost use Rattle.network.specs.inner.Cells.{lentCells, Followable, Rooted, outputAt};
 ghost use Rattle.table.specs.Stream.{packed};
 
 // A bit, inverted where i is true.
@@ -21,7 +22,7 @@ fn flipped(i: bool, b: bool) -> bool
 
 // The row's bit of the variable at level p.
 fn bit_under(order: [usize; VARIABLES], n: usize, row: usize, p: usize) -> bool
-    requires { ⌜ (n ≤ 10) × (T (isOrder n (take n order)) × (p < n)) ⌝ }
+    requires { ⌜ (n ≤ mostVariables) × (T (isOrder n (take n order)) × (p < n)) ⌝ }
     ensures { λ r. ⌜ r ≡ rowUnder n (take n order) row p ⌝ }
 {
     let v = order[p];

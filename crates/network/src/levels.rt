@@ -10,12 +10,15 @@ ghost use mathlib.Core.List.{[], _∷_};
 ghost use Prim.Native.Nat.{ℕ, _+_, _-_, _*_, _<_, _≤_};
 ghost use lib.ListN.{length, getD};
 ghost use lib.Seq.{sets};
+ghost use Rattle.diagram.specs.Bound.{mostVariables, mostOutputs};
 ghost use Rattle.table.specs.Stream.{sum};
-ghost use Rattle.network.specs.Levels.{made, entryMade, levelMade, levelAt, levelsMade};
+ghost use Rattle.fill.specs.Work.{workSize};
+ghost use Rattle.network.specs.Lent.{numberLimit};
+ghost use Rattle.network.specs.inner.Levels.{storedLimit, made, entryMade, levelMade, levelAt, levelsMade};
 
 // Puts the node with index k.
 fn put_node(cells: &mut [u16], k: usize, level: usize, low: usize, high: usize)
-    requires { ⌜ (3 * k + 2 < length (now cells)) × (level < 65536) × (low < 65536) × (high < 65536) ⌝ }
+    requires { ⌜ (3 * k + 2 < length (now cells)) × (level < numberLimit) × (low < numberLimit) × (high < numberLimit) ⌝ }
     ensures { λ _. ⌜ now (cells .exit) ≡ sets (now (cells .entry)) (3 * k) (level ∷ low ∷ high ∷ []) ⌝ }
 {
     let i = 3 * k;
@@ -33,8 +36,8 @@ fn read_entry(
     next: usize,
     cells: &mut [u16],
 ) -> usize
-    requires { ⌜ (p < 10) × (below < 65536) × (i < 65536) × (i + 1 < length (now work)) ⌝ }
-    requires { ⌜ entryMade p below i (made (now work) (now cells) next) .next ≤ 32767 ⌝ }
+    requires { ⌜ (p < mostVariables) × (below ≤ workSize) × (i < workSize) × (i + 1 < length (now work)) ⌝ }
+    requires { ⌜ 2 * entryMade p below i (made (now work) (now cells) next) .next + 1 < storedLimit ⌝ }
     requires { ⌜ 3 * entryMade p below i (made (now work) (now cells) next) .next ≤ length (now cells) ⌝ }
     ensures { λ r.
         ⌜ made (now (work .exit)) (now (cells .exit)) r ≡ entryMade p below i (made (now (work .entry)) (now (cells .entry)) next) ⌝ }
@@ -65,8 +68,8 @@ fn read_level(
     base: usize,
     cells: &mut [u16],
 ) -> usize
-    requires { ⌜ (p < 10) × (below < 65536) × (i + 4 * e < 65536) × (i + 4 * e ≤ length (now work)) ⌝ }
-    requires { ⌜ levelMade p below i e (made (now work) (now cells) base) .next ≤ 32767 ⌝ }
+    requires { ⌜ (p < mostVariables) × (below ≤ workSize) × (i + 4 * e ≤ workSize) × (i + 4 * e ≤ length (now work)) ⌝ }
+    requires { ⌜ 2 * levelMade p below i e (made (now work) (now cells) base) .next + 1 < storedLimit ⌝ }
     requires { ⌜ 3 * levelMade p below i e (made (now work) (now cells) base) .next ≤ length (now cells) ⌝ }
     ensures { λ r.
         ⌜ made (now (work .exit)) (now (cells .exit)) r ≡ levelMade p below i e (made (now (work .entry)) (now (cells .entry)) base) ⌝ }
@@ -83,7 +86,7 @@ fn read_level(
 
 // Where the links of the n levels end, behind those of m outputs.
 pub(crate) fn links_end(n: usize, m: usize, entries: [usize; VARIABLES]) -> usize
-    requires { ⌜ (n ≤ 10) × (m ≤ 16) × (levelAt m entries n < 65536) ⌝ }
+    requires { ⌜ (n ≤ mostVariables) × (m ≤ mostOutputs) × (levelAt m entries n ≤ workSize) ⌝ }
     ensures { λ r. ⌜ r ≡ levelAt m entries n ⌝ }
 {
     let mut end = LINKS + 2 * m;
@@ -107,8 +110,8 @@ pub(crate) fn read_levels(
     work: &mut [u8],
     cells: &mut [u16],
 )
-    requires { ⌜ (n ≤ 10) × (end ≡ levelAt m entries n) × (end < 65536) × (end ≤ length (now work)) ⌝ }
-    requires { ⌜ (total ≡ sum (λ q. getD counts q 0) n) × (total ≤ 32767) × (3 * total ≤ length (now cells)) ⌝ }
+    requires { ⌜ (n ≤ mostVariables) × (end ≡ levelAt m entries n) × (end ≤ workSize) × (end ≤ length (now work)) ⌝ }
+    requires { ⌜ (total ≡ sum (λ q. getD counts q 0) n) × (2 * total + 1 < storedLimit) × (3 * total ≤ length (now cells)) ⌝ }
     requires { ⌜ ((q : ℕ) → q < n → levelsMade m entries counts q (n - q) (made (now work) (now cells) 0) .next ≤ total) ⌝ }
     ensures work { λ _.
         ⌜ now (work .exit) ≡ levelsMade m entries counts 0 n (made (now (work .entry)) (now (cells .entry)) 0) .work ⌝ }

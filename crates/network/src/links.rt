@@ -1,15 +1,16 @@
-// Links and references in the work buffer, as 16-bit numbers, low byte first.
+// Links and references in the work buffer, as numbers of two bytes, low byte first.
 use table::bits::number_at;
 ghost use mathlib.Core.Path.{_≡_};
-ghost use Prim.Native.Nat.{_+_, _<_};
+ghost use Prim.Native.Nat.{_+_, _*_, _<_, _≤_};
 ghost use lib.ListN.{length};
-ghost use Rattle.diagram.specs.Trace.{opposite};
-ghost use Rattle.network.specs.Levels.{storedAt, putStored, refAt};
+ghost use Rattle.diagram.specs.inner.Trace.{opposite};
+ghost use Rattle.fill.specs.Work.{workSize};
+ghost use Rattle.network.specs.inner.Levels.{storedLimit, storedAt, putStored, refAt};
 
 // The number at byte i.
 pub(crate) fn stored_at(work: &[u8], i: usize) -> usize
-    requires { ⌜ i < 1000000 ⌝ }
-    ensures { λ r. ⌜ (r ≡ storedAt (now (work .entry)) i) × (r < 65536) ⌝ }
+    requires { ⌜ i < 4 * storedLimit ⌝ }
+    ensures { λ r. ⌜ (r ≡ storedAt (now (work .entry)) i) × (r < storedLimit) ⌝ }
 {
     let low = number_at(work, i);
     let high = number_at(work, i + 1);
@@ -18,7 +19,7 @@ pub(crate) fn stored_at(work: &[u8], i: usize) -> usize
 
 // Puts a number at byte i.
 pub(crate) fn put_stored(work: &mut [u8], i: usize, x: usize)
-    requires { ⌜ (i + 1 < length (now work)) × (x < 65536) ⌝ }
+    requires { ⌜ (i + 1 < length (now work)) × (x < storedLimit) ⌝ }
     ensures { λ _. ⌜ now (work .exit) ≡ putStored (now (work .entry)) i x ⌝ }
 {
     work[i] = (x % 256) as u8;
@@ -27,8 +28,8 @@ pub(crate) fn put_stored(work: &mut [u8], i: usize, x: usize)
 
 // The reference to the inverse, where odd is true.
 pub(crate) fn turned(r: usize, odd: bool) -> usize
-    requires { ⌜ r < 65536 ⌝ }
-    ensures { λ q. ⌜ (q ≡ opposite odd r) × (q < 65536) ⌝ }
+    requires { ⌜ r < storedLimit ⌝ }
+    ensures { λ q. ⌜ (q ≡ opposite odd r) × (q < storedLimit) ⌝ }
 {
     if !odd {
         return r;
@@ -41,8 +42,8 @@ pub(crate) fn turned(r: usize, odd: bool) -> usize
 
 // The reference that link number k stands for, where the references of the entries below stand from byte `below` on.
 pub(crate) fn link_ref(work: &[u8], below: usize, k: usize) -> usize
-    requires { ⌜ (below < 65536) × (k < 65536) ⌝ }
-    ensures { λ r. ⌜ (r ≡ refAt (now (work .entry)) below k) × (r < 65536) ⌝ }
+    requires { ⌜ (below ≤ workSize) × (k < storedLimit) ⌝ }
+    ensures { λ r. ⌜ (r ≡ refAt (now (work .entry)) below k) × (r < storedLimit) ⌝ }
 {
     if k < 2 {
         return k;

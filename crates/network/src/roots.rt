@@ -6,14 +6,16 @@ use fill::LINKS;
 ghost use mathlib.Core.Path.{_≡_};
 ghost use Prim.Native.Nat.{_<_, _≤_};
 ghost use lib.ListN.{length};
+ghost use Rattle.diagram.specs.Bound.{mostOutputs};
 ghost use Rattle.table.specs.Calls.{over};
+ghost use Rattle.fill.specs.Work.{workSize};
 ghost use Rattle.network.specs.Lent.{rootsSize};
-ghost use Rattle.network.specs.Levels.{rootAt};
+ghost use Rattle.network.specs.inner.Levels.{storedLimit, rootAt};
 
 // The root of output j, of m; zero past them.
 fn root_of(work: &[u8], m: usize, below: usize, j: usize) -> usize
-    requires { ⌜ (below < 65536) × (j < 16) ⌝ }
-    ensures { λ r. ⌜ (r ≡ rootAt (now (work .entry)) m below j) × (r < 65536) ⌝ }
+    requires { ⌜ (below ≤ workSize) × (j < mostOutputs) ⌝ }
+    ensures { λ r. ⌜ (r ≡ rootAt (now (work .entry)) m below j) × (r < storedLimit) ⌝ }
 {
     if m <= j {
         return 0;
@@ -22,9 +24,9 @@ fn root_of(work: &[u8], m: usize, below: usize, j: usize) -> usize
     link_ref(work, below, k)
 }
 
-// Writes all 16 roots.
+// Writes all the roots lent, zero past the outputs.
 pub(crate) fn write_roots(work: &[u8], m: usize, below: usize, roots: &mut [u16])
-    requires { ⌜ (below < 65536) × (16 ≤ length (now roots)) ⌝ }
+    requires { ⌜ (below ≤ workSize) × (rootsSize ≤ length (now roots)) ⌝ }
     ensures { λ _. ⌜ now (roots .exit) ≡ over (rootAt (now (work .entry)) m below) rootsSize (now (roots .entry)) ⌝ }
 {
     let mut j: usize = 0;

@@ -71,7 +71,8 @@ module _ (t u : Table) (a : Alike t u) where
   pub bit-alike : (order : List ℕ) (j r : ℕ) → filledBit true t order j r ≡ filledBit true u order j r
   unfolding filledBit
   bit-alike order j r =
-      ap (λ (ts : List (Tree Bool (t .n))). at 0 (rowUnder (t .n) order r) (getD ts j (full false (t .n)))) (filled-same t (u .row) (a .rows) order)
+      ap (λ (ts : List (Tree Bool (t .n))). at 0 (rowUnder (t .n) order r) (getD ts j (full false (t .n))))
+      (filled-same t (u .row) (a .rows) order)
       ∙ ap (λ (w : Table). filledBit true w order j r) renumbered
 
   pub sift-alike : (v : ℕ) (order : List ℕ) → sift t v order ≡ sift u v order

@@ -1,33 +1,25 @@
 -- What the calls answer and leave where a table is held and the lent slices are long enough.
 -- Assumes nothing.
 use mathlib.Core.Path.{_≡_, refl}
-use mathlib.Core.Bool.{Bool, true, false, cond, _&&_}
+use mathlib.Core.Bool.{Bool, true, false, cond}
 use mathlib.Core.List.{List, _++_}
 use Prim.Native.Nat.{ℕ, _*_, _<_}
 use borrow.Author.Tests.{lt-ltb}
 use lib.Dec.{T, leb}
-use lib.ListN.{length, getD, drop}
+use lib.ListN.{getD, drop}
 use Rattle.diagram.specs.Table.{cost}
 use Rattle.diagram.proofs.Bools.{of-T, to-not}
 use Rattle.diagram.proofs.Sift.{sift-order}
 use Rattle.table.specs.declared.Answer.the-variants.{Done, TooSmall}
 use Rattle.table.specs.declared.State.{State}
 use Rattle.table.specs.State.{orderOf, stageOf, isNothing}
-use Rattle.table.specs.Calls.{planeSize, over}
+use Rattle.table.specs.Calls.{over}
 use Rattle.table.proofs.Held.{ordered}
-use Rattle.fill.specs.Work.{workSize}
 use Rattle.fill.specs.Calls.{heldTable, enough, countAnswer}
 use Rattle.network.specs.Lent.{numbersOf, rootsSize}
-use Rattle.network.specs.Build.{heldNetwork, wanted, capacity, buildAnswer, buildOutcome, buildRoots, buildCells}
+use Rattle.network.specs.Build.{heldNetwork, wanted, capacity, longEnough, buildAnswer, buildOutcome, buildRoots, buildCells}
 use Rattle.sift.specs.Calls.{siftedOrder, siftAnswer, siftOutcome}
 use Rattle.sift.proofs.Headings.{take-order}
-
--- the slices of `enough` and the roots, as a build tests them
-four : (a b c d : Bool) → T (a && (b && c)) → T d → (a && (b && (c && d))) ≡ true
-four true true true d t u = of-T u
-four true true false d t u = absurd t
-four true false c d t u = absurd t
-four false b c d t u = absurd t
 
 module _ (s : State) (values care work : List ℕ) (long : T (enough values care work)) (staged : isNothing (stageOf s) ≡ false) where
   is-long : enough values care work ≡ true
@@ -53,29 +45,28 @@ module _ (s : State) (values care work : List ℕ) (long : T (enough values care
         (take-order (s .n) (siftedOrder s v values care) (s .order) (siftedOrder s v values care ++ drop (s .n) (s .order))
         (sift-order (heldTable s values care) v (orderOf s) (ordered s (to-not staged)) h) refl)
 
-  module _ (roots cells : List ℕ) (sixteen : T (leb rootsSize (length roots))) where
-    -- by the board
-    built : (b : Bool) → leb (wanted s values care) (capacity cells) ≡ b
-        → buildAnswer s values care work roots cells ≡ cond b (Done (wanted s values care)) (TooSmall (wanted s values care))
-    unfolding buildAnswer
-    built b e =
-        rw (
-          four (leb planeSize (length values)) (leb planeSize (length care)) (leb workSize (length work)) (leb rootsSize (length roots)) long sixteen,
-          staged,
-          e,
-        )
+module _ (s : State) (values care work roots cells : List ℕ) (long : T (longEnough values care work roots))
+    (staged : isNothing (stageOf s) ≡ false) where
+  all-long : longEnough values care work roots ≡ true
+  all-long = of-T long
 
-    pub built-answer : (b : Bool) → leb (wanted s values care) (capacity cells) ≡ b
-        → buildOutcome s values care work roots cells .answer ≡ cond b (Done (wanted s values care)) (TooSmall (wanted s values care))
-    unfolding buildOutcome
-    built-answer b e = built b e
+  -- by the board
+  built : (b : Bool) → leb (wanted s values care) (capacity cells) ≡ b
+      → buildAnswer s values care work roots cells ≡ cond b (Done (wanted s values care)) (TooSmall (wanted s values care))
+  unfolding buildAnswer
+  built b e = rw (all-long, staged, e)
 
-    module _ (room : leb (wanted s values care) (capacity cells) ≡ true) where
-      pub built-cells : buildCells s values care work roots cells
-          ≡ numbersOf (heldNetwork s values care .nodes) ++ drop (3 * wanted s values care) cells
-      unfolding buildCells
-      built-cells = rw (built true room)
+  pub built-answer : (b : Bool) → leb (wanted s values care) (capacity cells) ≡ b
+      → buildOutcome s values care work roots cells .answer ≡ cond b (Done (wanted s values care)) (TooSmall (wanted s values care))
+  unfolding buildOutcome
+  built-answer b e = built b e
 
-      pub built-roots : buildRoots s values care work roots cells ≡ over (λ j. getD (heldNetwork s values care .roots) j 0) rootsSize roots
-      unfolding buildRoots
-      built-roots = rw (built true room)
+  module _ (room : leb (wanted s values care) (capacity cells) ≡ true) where
+    pub built-cells : buildCells s values care work roots cells
+        ≡ numbersOf (heldNetwork s values care .nodes) ++ drop (3 * wanted s values care) cells
+    unfolding buildCells
+    built-cells = rw (built true room)
+
+    pub built-roots : buildRoots s values care work roots cells ≡ over (λ j. getD (heldNetwork s values care .roots) j 0) rootsSize roots
+    unfolding buildRoots
+    built-roots = rw (built true room)

@@ -1,4 +1,5 @@
--- Where a state and lent bytes hold a table under an order, the table in the lent bytes is alike: its network, its filled rows, its cost and
+-- Where a state and lent bytes hold a table under an order, the table in the lent bytes is alike: its network, its filled rows, its cost
+-- and
 -- its sifts under the state's order are the table's under that order.
 -- Assumes nothing.
 use mathlib.Core.Path.{_≡_, sym, ap, _∙_}

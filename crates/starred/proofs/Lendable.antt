@@ -13,7 +13,7 @@ use lib.ListN.{length, getD, length-append}
 use lib.Seq.{take-at}
 use Rattle.diagram.specs.Lists.{all}
 use Rattle.diagram.specs.Fill.{Row}
-use Rattle.diagram.specs.Bound.{mostVariables, mostOutputs}
+use Rattle.diagram.specs.Bound.{mostVariables}
 use Rattle.diagram.specs.Order.{isOrder}
 use Rattle.diagram.specs.Table.{Table}
 use Rattle.diagram.specs.Starred.{Claim, builds, costs, sifts, fits, starred}
@@ -33,24 +33,24 @@ use Rattle.starred.proofs.Planes.{plane, plane-length, plane-bit, plane
 
 module _ (t : Table) (order : List ℕ) (good : T (goodHeading (t .n) (t .m) order)) where
   lentState : State
-  lentState = record { n = t .n; m = t .m; order = order ++ zeros (10 - t .n); count = 0; stage = AtTable }
+  lentState = record { n = t .n; m = t .m; order = order ++ zeros (mostVariables - t .n); count = 0; stage = AtTable }
 
   valid : T (isOrder (t .n) order)
   valid = heading-order (t .n) (t .m) order good
 
   lent-order : orderOf lentState ≡ order
   unfolding lentState
-  lent-order = take-at order (zeros (10 - t .n)) (t .n) (order-length (t .n) order valid)
+  lent-order = take-at order (zeros (mostVariables - t .n)) (t .n) (order-length (t .n) order valid)
 
   lent-stage : isNothing (stageOf lentState) ≡ false
   unfolding lentState
   lent-stage = ap isNothing (stage-good lentState (ap (goodHeading (t .n) (t .m)) lent-order ∙ of-T good))
 
-  lent-ten : length (lentState .order) ≡ 10
+  lent-entries : length (lentState .order) ≡ mostVariables
   unfolding lentState
-  lent-ten =
-      length-append order (zeros (10 - t .n))
-      ∙ omega (arith, order-length (t .n) order valid, zeros-length (10 - t .n), heading-inputs (t .n) (t .m) order good)
+  lent-entries =
+      length-append order (zeros (mostVariables - t .n))
+      ∙ omega (arith, order-length (t .n) order valid, zeros-length (mostVariables - t .n), heading-inputs (t .n) (t .m) order good)
 
   -- the table's bits in a stream, output 0's rows first
   module _ (f : Row → Bool) where
@@ -89,7 +89,7 @@ module _ (t : Table) (order : List ℕ) (good : T (goodHeading (t .n) (t .m) ord
           cared = lent-bit (λ x. x .care);
           valued = λ j r p q c. lent-bit (λ x. x .value) j r p q;
         };
-        ten = lent-ten;
+        entries = lent-entries;
         valueBytes = plane-bytes values;
         careBytes = plane-bytes care;
         workBytes = zeros-bytes workSize;

@@ -7,6 +7,7 @@ use Prim.Native.Nat.{ℕ, zero, suc, _+_, _*_, _-_, _/_, _%_, _<_, _^_}
 use native.Mathlib.Omega.{arith}
 use lib.Dec.{T, eqb, ltb, lt→ltb}
 use lib.ListN.{length, replicate, length-replicate}
+use Rattle.diagram.specs.Bound.{mostVariables, mostOutputs}
 use Rattle.diagram.specs.Lists.{upTo, rowNumber, bit}
 use Rattle.diagram.proofs.Bools.{and-T}
 use Rattle.diagram.proofs.Bits.{number-lt, bit-number}
@@ -25,7 +26,7 @@ plane f = map (byteOf f) (upTo planeSize)
 pub plane-length : (f : ℕ → Bool) → length (plane f) ≡ planeSize
 plane-length f = length-map-upTo (byteOf f) planeSize
 
-pub plane-bit : (f : ℕ → Bool) (i : ℕ) → i < 16384 → streamBit (plane f) i ≡ f i
+pub plane-bit : (f : ℕ → Bool) (i : ℕ) → i < mostOutputs * 2 ^ mostVariables → streamBit (plane f) i ≡ f i
 unfolding streamBit bit planeSize
 plane-bit f i h =
     let e : i % 8 ≡ 8 - suc (7 - i % 8) = omega arith in

@@ -42,7 +42,7 @@ cost-length t order = refl
 module _ (t : Table) (order : List ℕ) (rows : List (List Bool)) (nodes : List Node) (refs : List ℕ) where
   shown-builds : T (holds (builds t order rows nodes refs)) → Shown (builds t order rows nodes refs)
   unfolding holds Shown wanted heldNetwork
-  shown-builds x s values care work roots cells h long sixteen room =
+  shown-builds x s values care work roots cells h long room =
       let a = equal (equal Bool·beq) (filledRows t order) rows in
       let b = equal sameNode (networkOf true t order .nodes) nodes in
       let c = equal eqb (networkOf true t order .roots) refs in
@@ -54,12 +54,12 @@ module _ (t : Table) (order : List ℕ) (rows : List (List Bool)) (nodes : List 
       let k : wanted s values care ≡ length nodes = held-cost h ∙ cost-length t order ∙ ap length q in
       let fit : leb (wanted s values care) (capacity cells) ≡ true = rw k (le-leb (length nodes) (capacity cells) room) in
       record {
-        answer = built-answer s values care work long (h .staged) roots cells sixteen true fit ∙ ap Done k;
+        answer = built-answer s values care work roots cells long (h .staged) true fit ∙ ap Done k;
         written =
-            built-cells s values care work long (h .staged) roots cells sixteen fit
+            built-cells s values care work roots cells long (h .staged) fit
             ∙ ap₂ (λ (xs : List Node) (w : ℕ). numbersOf xs ++ drop (3 * w) cells) ns k;
         rooted =
-            built-roots s values care work long (h .staged) roots cells sixteen fit
+            built-roots s values care work roots cells long (h .staged) fit
             ∙ ap (λ (xs : List ℕ). over (λ j. getD xs j 0) rootsSize roots) rs;
         filled = λ j r in-m in-n. held-bit h j r
             ∙ listed t order rows (rows-sound (filledRows t order) rows (and-l a (b && c) x)) j r
@@ -71,7 +71,8 @@ unfolding holds Shown
 shown-costs t order c x s values care work h long =
     counted s values care work long (h .staged) ∙ ap Done (held-cost h ∙ eqb→eq (cost t order) c x)
 
-shown-sifts : (t : Table) (order : List ℕ) (v : ℕ) (left : List ℕ) (c : ℕ) → T (holds (sifts t order v left c)) → Shown (sifts t order v left c)
+shown-sifts : (t : Table) (order : List ℕ) (v : ℕ) (left : List ℕ) (c : ℕ) → T (holds (sifts t order v left c))
+    → Shown (sifts t order v left c)
 unfolding holds Shown
 shown-sifts t order v left c x s values care work h long below =
     let a = equal eqb (sift t v order) left in
@@ -86,8 +87,8 @@ shown-sifts t order v left c x s values care work h long below =
 
 shown-fits : (t : Table) (order : List ℕ) (b : ℕ) (fit : Bool) → T (holds (fits t order b fit)) → Shown (fits t order b fit)
 unfolding holds Shown wanted
-shown-fits t order b fit x s values care work roots cells h long sixteen size =
-    built-answer s values care work long (h .staged) roots cells sixteen fit
+shown-fits t order b fit x s values care work roots cells h long size =
+    built-answer s values care work roots cells long (h .staged) fit
     (ap₂ leb (held-cost h) size ∙ beq→eq (leb (cost t order) b) fit x)
     ∙ ap (λ (w : ℕ). cond fit (Done w) (TooSmall w)) (held-cost h)
 

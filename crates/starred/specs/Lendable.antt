@@ -7,6 +7,7 @@ use Prim.Native.Nat.{ℕ, _<_}
 use lib.Dec.{T, ltb}
 use lib.ListN.{length}
 use Rattle.diagram.specs.Lists.{all}
+use Rattle.diagram.specs.Bound.{mostVariables}
 use Rattle.diagram.specs.Table.{Table}
 use Rattle.diagram.specs.Starred.{Claim, builds, costs, sifts, fits}
 use Rattle.table.specs.declared.State.{State}
@@ -17,14 +18,15 @@ use Rattle.starred.specs.Shown.{Holds}
 abbrev pub isBytes : List ℕ → Bool
 isBytes xs = all (λ b. ltb b 256) xs
 
--- a state of ten order entries and slices of bytes, long enough, that hold a table under an order; any roots and cells do
+-- a state with an order entry for each level there can be, and slices of bytes, long enough, that hold a table under an order; any roots
+-- and cells do
 pub record Lendable (t : Table) (order : List ℕ) : Type 0 where
   pub state : State
   pub values : List ℕ
   pub care : List ℕ
   pub work : List ℕ
   pub holds : Holds t order state values care
-  pub ten : length (state .order) ≡ 10
+  pub entries : length (state .order) ≡ mostVariables
   pub valueBytes : T (isBytes values)
   pub careBytes : T (isBytes care)
   pub workBytes : T (isBytes work)

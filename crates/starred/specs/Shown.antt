@@ -5,7 +5,7 @@ use mathlib.Core.Path.{_≡_}
 use mathlib.Core.Bool.{Bool, true, false, cond}
 use mathlib.Core.List.{List, [], _++_}
 use Prim.Native.Nat.{ℕ, _+_, _*_, _≤_, _<_, _^_}
-use lib.Dec.{T, leb}
+use lib.Dec.{T}
 use lib.ListN.{length, getD, drop}
 use Rattle.diagram.specs.Diagram.{Node}
 use Rattle.diagram.specs.Table.{Table, filledBit, cost}
@@ -17,7 +17,7 @@ use Rattle.table.specs.State.{orderOf, stageOf, isNothing}
 use Rattle.table.specs.Calls.{over}
 use Rattle.fill.specs.Calls.{heldTable, enough, countAnswer}
 use Rattle.network.specs.Lent.{numbersOf, rootsSize}
-use Rattle.network.specs.Build.{capacity, buildOutcome, buildRoots, buildCells}
+use Rattle.network.specs.Build.{capacity, longEnough, buildOutcome, buildRoots, buildCells}
 use Rattle.sift.specs.Calls.{siftOutcome}
 
 -- a state and lent bytes hold a table under an order: a state that isn't at stage nothing, with the table's n and m and that order;
@@ -50,7 +50,7 @@ unfoldable pub Shown : Claim → Type 0
 -- where the board has room for the cells claimed
 Shown (builds t order rows nodes refs) =
     (s : State) (values care work roots cells : List ℕ) → Holds t order s values care
-    → T (enough values care work) → T (leb rootsSize (length roots)) → length nodes ≤ capacity cells
+    → T (longEnough values care work roots) → length nodes ≤ capacity cells
     → Builds s values care work roots cells rows nodes refs
 Shown (costs t order c) =
     (s : State) (values care work : List ℕ) → Holds t order s values care → T (enough values care work)
@@ -62,5 +62,5 @@ Shown (sifts t order v left c) =
 -- a board of the size claimed, and the answer of a build on it: the cells if it is enough, else 23 with the cells wanted
 Shown (fits t order b fit) =
     (s : State) (values care work roots cells : List ℕ) → Holds t order s values care
-    → T (enough values care work) → T (leb rootsSize (length roots)) → capacity cells ≡ b
+    → T (longEnough values care work roots) → capacity cells ≡ b
     → buildOutcome s values care work roots cells .answer ≡ cond fit (Done (cost t order)) (TooSmall (cost t order))

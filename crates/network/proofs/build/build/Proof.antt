@@ -1,3 +1,5 @@
+-- `network::build::build` meets its contract: each way it ends is a law of `BuildCases`.
+-- Assumes nothing.
 use borrow.Author.Needs.{needs}
 use denote.Ref.{now}
 use Rattle.network.proofs.BuildCases.{short-case, refused-case, small-case, ready, built-case}
@@ -28,7 +30,8 @@ returns-2 : tie.Need-returns-2
 returns-2 c =
     let a = c .before .before .before .before .before .before .before .before .before .before .before .args in
     let k = c .before .before .before .links in
-    refused-case (a .state) (now (a .values)) (now (a .care)) (now (a .work)) (now (a .roots)) (now (a .cells)) (c .before .before .before .before .before .if1 .left) (k .result)
+    refused-case (a .state) (now (a .values)) (now (a .care)) (now (a .work)) (now (a .roots)) (now (a .cells))
+    (c .before .before .before .before .before .if1 .left) (k .result)
     (k .last .1 .1 .1 .0) (k .ensures .0) (k .ensures .1) (c .match .keys2)
 
 clear-requires : tie.Need-clear-requires
@@ -39,19 +42,26 @@ same-length-2 c = search needs
 
 returns-3 : tie.Need-returns-3
 returns-3 c =
-    let a = c .before .before .before .before .before .before .before .before .before .before .before .before .before .before .before .before .before .before .args in
-    let k = c .before .before .before .before .before .before .before .before .before .before .links in
-    let g = c .before .before .before .before .before .before .answer .given in
-    small-case (a .state) (now (a .values)) (now (a .care)) (now (a .work)) (now (a .roots)) (now (a .cells)) (c .before .before .before .before .before .before .before .before .before .before .before .before .if1 .left) (k .result)
-    (k .last .1 .1 .1 .0) (k .ensures .0) (k .ensures .1) (g .0 .0) (g .1) (c .before .before .before .before .if2 .taken) (c .before .before .clear .last .0) (c .before .before .clear .ensures)
+    let q = c .before .before .before .before in
+    let v = q .before .before .before .before .before .before in
+    let u = v .before .before in
+    let a = u .before .before .before .before .before .before .args in
+    let k = v .links in
+    let g = q .before .before .answer .given in
+    small-case (a .state) (now (a .values)) (now (a .care)) (now (a .work)) (now (a .roots)) (now (a .cells)) (u .if1 .left)
+    (k .result) (k .last .1 .1 .1 .0) (k .ensures .0) (k .ensures .1) (g .0 .0) (g .1) (q .if2 .taken) (c .before .before .clear .last .0)
+    (c .before .before .clear .ensures)
 
 lay-out-requires : tie.Need-lay-out-requires
 lay-out-requires c κs =
-    let a = c .before .before .before .before .before .before .before .before .before .before .before .before .before .before .before .before .before .before .before .args in
-    let k = c .before .before .before .before .before .before .before .before .before .before .before .links in
-    let g = c .before .before .before .before .before .before .before .answer .given in
-    ready (a .state) (now (a .values)) (now (a .care)) (now (a .work)) (now (a .roots)) (now (a .cells)) (c .before .before .before .before .before .before .before .before .before .before .before .before .before .if1 .left) (k .result)
-    (k .last .1 .1 .1 .0) (k .ensures .0) (k .ensures .1) (g .0 .0) (g .1) (c .before .before .before .before .before .if2 .left)
+    let q = c .before .before .before .before .before in
+    let v = q .before .before .before .before .before .before in
+    let u = v .before .before in
+    let a = u .before .before .before .before .before .before .args in
+    let k = v .links in
+    let g = q .before .before .answer .given in
+    ready (a .state) (now (a .values)) (now (a .care)) (now (a .work)) (now (a .roots)) (now (a .cells)) (u .if1 .left) (k .result)
+    (k .last .1 .1 .1 .0) (k .ensures .0) (k .ensures .1) (g .0 .0) (g .1) (q .if2 .left)
 
 with-network-requires : tie.Need-with-network-requires
 with-network-requires c κs = search needs
@@ -67,14 +77,18 @@ same-length-5 c = search needs
 
 returns-4 : tie.Need-returns-4
 returns-4 c =
-    let a = c .before .before .before .before .before .before .before .before .before .before .before .before .before .before .before .before .before .before .before .before .before .before .before .before .before .before .before .args in
-    let k = c .before .before .before .before .before .before .before .before .before .before .before .before .before .before .before .before .before .before .before .links in
-    let g = c .before .before .before .before .before .before .before .before .before .before .before .before .before .before .before .answer .given in
-    let y = c .before .before .before .before .before .before .before .lay-out in
-    built-case (a .state) (now (a .values)) (now (a .care)) (now (a .work)) (now (a .roots)) (now (a .cells)) (c .before .before .before .before .before .before .before .before .before .before .before .before .before .before .before .before .before .before .before .before .before .if1 .left) (k .result)
-    (k .last .1 .1 .1 .0) (k .ensures .0) (k .ensures .1) (g .0 .0) (g .1) (c .before .before .before .before .before .before .before .before .before .before .before .before .before .if2 .left) (y .last .1 .1 .1 .1 .1 .0) (y .last .1 .1 .1 .1 .1 .1 .0)
-    (y .last .1 .1 .1 .1 .1 .1 .1 .0) (y .ensures .0) (y .ensures .1 .0) (y .ensures .1 .1) (c .with-network .result)
-    (c .with-network .ensures)
+    let p = c .before .before .before .before .before .before .before in
+    let q = p .before .before .before .before .before .before in
+    let v = q .before .before .before .before .before .before in
+    let u = v .before .before in
+    let a = u .before .before .before .before .before .before .args in
+    let k = v .links in
+    let g = q .before .before .answer .given in
+    let y = p .lay-out in
+    built-case (a .state) (now (a .values)) (now (a .care)) (now (a .work)) (now (a .roots)) (now (a .cells)) (u .if1 .left)
+    (k .result) (k .last .1 .1 .1 .0) (k .ensures .0) (k .ensures .1) (g .0 .0) (g .1) (q .if2 .left) (y .last .1 .1 .1 .1 .1 .0)
+    (y .last .1 .1 .1 .1 .1 .1 .0) (y .last .1 .1 .1 .1 .1 .1 .1 .0) (y .ensures .0) (y .ensures .1 .0) (y .ensures .1 .1)
+    (c .with-network .result) (c .with-network .ensures)
 
 pub build-spec : {M : Type 1} → statement M
 build-spec =

@@ -1,13 +1,17 @@
+-- `network::build::lay_out` meets its contract: the levels are read, then the roots, and the work buffer is cleared.
+-- Assumes nothing.
 use borrow.Author.Needs.{needs}
 use mathlib.Core.Path.{sym, ap, ap₂, _∙_}
 use mathlib.Core.List.{List}
-use Prim.Native.Nat.{ℕ}
+use Prim.Native.Nat.{ℕ, _+_, _*_}
+use native.Mathlib.Omega.{arith}
 use denote.Ref.{now}
 use Rattle.table.specs.Calls.{over}
 use Rattle.fill.specs.Work.{clearedWork}
+use Rattle.fill.proofs.Holding.{work-size}
 use Rattle.network.specs.Lent.{rootsSize}
-use Rattle.network.specs.Levels.{rootAt}
-use Rattle.network.proofs.Offsets.{first-at}
+use Rattle.network.specs.inner.Levels.{rootAt}
+use Rattle.network.proofs.Offsets.{links-at, first-at}
 use Rattle.network.proofs.build.lay_out.Statement.{statement}
 use Rattle.network.proofs.build.lay_out.Tie as tie
 use Rattle.network.proofs.build.lay_out.Reads as reads
@@ -17,52 +21,44 @@ use Rattle.network.proofs.levels.links_end.Reads as links-end-reads
 use Rattle.network.proofs.levels.read_levels.Reads as read-levels-reads
 use Rattle.network.proofs.roots.write_roots.Reads as write-roots-reads
 
--- src/build.rt:36:9
 links-end-requires : tie.Need-links-end-requires
 links-end-requires c κs = search needs
 
--- src/build.rt:37:5
 read-levels-requires : tie.Need-read-levels-requires
 read-levels-requires c κs = search needs
 
--- src/build.rt:38:24
 mul-first : tie.Need-mul-first
 mul-first c = search needs
 
--- src/build.rt:38:17
 add-first : tie.Need-add-first
 add-first c = search needs
 
--- src/build.rt:39:5
 write-roots-requires : tie.Need-write-roots-requires
-write-roots-requires c κs = search needs
+write-roots-requires c κs = omega (arith, work-size)
 
--- src/build.rt:40:5
 clear-requires : tie.Need-clear-requires
 clear-requires c κs = search needs
 
--- src/build.rt:28:1
 same-length : tie.Need-same-length
 same-length c = search needs
 
--- src/build.rt:28:1
 same-length-2 : tie.Need-same-length-2
 same-length-2 c = search needs
 
--- src/build.rt:28:1
 same-length-3 : tie.Need-same-length-3
 same-length-3 c = search needs
 
--- src/build.rt:28:1
 returns : tie.Need-returns
 returns c =
-    let a = c .before .before .before .before .before .before .before .before .before .before .before .before .before .before .before .before .before .before .before .before .args in
-    let r = c .before .before .before .before .before .before .before .before .before .before .before .before .before .read-levels .ensures in (
+    let d = c .before .before .before .before .before .before .before .before .before .before .before .before .before in
+    let a = d .before .before .before .before .before .before .before .args in
+    let r = d .read-levels .ensures in (
       c .before .before .clear .ensures ∙ ap clearedWork (r .0),
       (
         r .1,
         c .before .before .before .before .before .before .write-roots .ensures
-            ∙ ap₂ (λ (w : List ℕ) (i : ℕ). over (rootAt w (a .m) i) rootsSize (now (a .roots))) (r .0) (sym (first-at (a .m) (a .entries))),
+            ∙ ap₂ (λ (w : List ℕ) (i : ℕ). over (rootAt w (a .m) i) rootsSize (now (a .roots))) (r .0)
+            (ap (λ k. k + 2 * a .m) (sym links-at) ∙ sym (first-at (a .m) (a .entries))),
       ),
     )
 

@@ -1,4 +1,4 @@
--- `network::cells::lent_number` meets its contract: each number of 16 bits is below 65536, and past the end there is none.
+-- `network::cells::lent_number` meets its contract: each number of 16 bits is below `numberLimit`, and past the end there is none.
 -- Assumes nothing.
 use borrow.Author.Needs.{needs}
 use mathlib.Core.Path.{refl, sym}

@@ -1,4 +1,5 @@
--- `network::cells::nodes_good` meets its contract: the cells below i are good, and the loop ends at the first that is not, or past the last.
+-- `network::cells::nodes_good` meets its contract: the cells below i are good, and the loop ends at the first that is not, or past the
+-- last.
 -- Assumes nothing.
 use borrow.Author.Needs.{needs}
 use mathlib.Core.Path.{_≡_, refl, sym, _∙_}
@@ -43,7 +44,8 @@ loop-again c =
     let l = c .before .before .before .loop in
     let g = c .before .node-good in (
       search needs,
-      all-upTo-more (goodNode (a .count) (now (a .cells)) (a .n)) (l .i) (l .inv .1) (sym (g .ensures) ∙ not-false (g .result) (c .if1 .left)),
+      all-upTo-more (goodNode (a .count) (now (a .cells)) (a .n)) (l .i) (l .inv .1)
+          (sym (g .ensures) ∙ not-false (g .result) (c .if1 .left)),
     )
 
 returns-2 : tie.Need-returns-2 Inv-loop μ-loop

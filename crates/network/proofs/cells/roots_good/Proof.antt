@@ -1,4 +1,5 @@
--- `network::cells::roots_good` meets its contract: the roots below j are the diagram's own, and the loop ends at the first that is not, or past the last of m.
+-- `network::cells::roots_good` meets its contract: the roots below j are the diagram's own, and the loop ends at the first that is not, or
+-- past the last of m.
 -- Assumes nothing.
 use borrow.Author.Needs.{needs}
 use mathlib.Core.Path.{_≡_, refl, sym}
@@ -49,7 +50,8 @@ loop-again c =
     let l = c .before .before .before .loop in
     let g = c .before .lent-number in (
       search needs,
-      roots-more (a .count) (now (a .cells)) (now (a .roots)) (a .m) (b .pre .1) (l .j) (g .result) (g .ensures .0) (search needs) (l .inv .1),
+      roots-more (a .count) (now (a .cells)) (now (a .roots)) (a .m) (b .pre .1) (l .j) (g .result) (g .ensures .0) (search needs)
+          (l .inv .1),
     )
 
 returns-2 : tie.Need-returns-2 Inv-loop μ-loop

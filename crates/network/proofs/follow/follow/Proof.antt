@@ -1,4 +1,5 @@
--- `network::follow::follow` meets its contract: r stays the diagram's own, and what the row gives at the root is what it gives at r, inverted where `inverted` says.
+-- `network::follow::follow` meets its contract: r stays the diagram's own, and what the row gives at the root is what it gives at r,
+-- inverted where `inverted` says.
 -- The levels left at r fall.
 -- Assumes nothing.
 use borrow.Author.Needs.{needs}
@@ -10,7 +11,7 @@ use lib.ListN.{take}
 use Rattle.diagram.specs.Lists.{flip}
 use Rattle.diagram.specs.Diagram.{refers, gives}
 use Rattle.diagram.specs.Order.{rowUnder}
-use Rattle.network.specs.Cells.{lentCells}
+use Rattle.network.specs.inner.Cells.{lentCells}
 use Rattle.network.proofs.Following.{left, step-own, step-falls, step-gives, last-gives}
 use Rattle.network.proofs.follow.follow.Statement.{statement}
 use Rattle.network.proofs.follow.follow.Tie as tie

@@ -28,8 +28,12 @@ bit-under-requires c κs =
       b .pre .0 .few,
       (
         b .pre .0 .ordered,
-        omega
-            (arith, c .lent-number .ensures .0, level-below (a .n) (a .count) (a .order) (now (a .cells)) (b .pre .0) (a .r) (b .pre .1 .0) (b .pre .1 .1)),
+        omega (
+          arith,
+          c .lent-number .ensures .0,
+          level-below (a .n) (a .count) (a .order) (now (a .cells)) (b .pre .0) (a .r) (b .pre .1 .0)
+              (b .pre .1 .1),
+        ),
       ),
     )
 

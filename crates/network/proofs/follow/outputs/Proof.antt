@@ -6,7 +6,7 @@ use mathlib.Core.Logic.{⊎-elim}
 use Prim.Native.Nat.{ℕ, _≤_, _-_}
 use native.Mathlib.Omega.{arith}
 use denote.Ref.{now}
-use Rattle.network.specs.Cells.{lentCells, outputAt}
+use Rattle.network.specs.inner.Cells.{lentCells, outputAt}
 use Rattle.table.specs.Stream.{packed}
 use Rattle.network.proofs.Outputs.{root-own, output-found, output-small, output-one, output-zero}
 use Rattle.network.proofs.follow.outputs.Statement.{statement}
@@ -42,8 +42,11 @@ add-total : tie.Need-add-total Inv-loop μ-loop
 add-total c =
     let a = c .before .before .before .before .before .before .before .args in
     let l = c .before .before .before .before .loop in
-    omega
-    (arith, output-small (outputAt (a .n) (a .count) (a .order) (now (a .cells)) (a .row) (now (a .roots))) (l .j) (l .total) (l .inv .1) (search needs))
+    omega (
+      arith,
+      output-small (outputAt (a .n) (a .count) (a .order) (now (a .cells)) (a .row) (now (a .roots))) (l .j) (l .total) (l .inv .1)
+          (search needs),
+    )
 
 add-j : tie.Need-add-j Inv-loop μ-loop
 add-j c = search needs

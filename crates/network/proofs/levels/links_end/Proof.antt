@@ -1,8 +1,11 @@
-use mathlib.Core.Path.{_≡_, sym, ap, _∙_}
+-- `network::levels::links_end` meets its contract: the end so far is where the level begins.
+-- Assumes nothing.
+use mathlib.Core.Path.{_≡_, ap, _∙_}
 use Prim.Native.Nat.{_≤_, _-_}
 use native.Mathlib.Omega.{arith}
-use Rattle.network.specs.Levels.{levelAt}
-use Rattle.network.proofs.Offsets.{first-at, next-at, within}
+use Rattle.fill.proofs.Holding.{work-size}
+use Rattle.network.specs.inner.Levels.{levelAt}
+use Rattle.network.proofs.Offsets.{links-at, first-at, next-at, within}
 use Rattle.network.proofs.levels.links_end.Statement.{statement}
 use Rattle.network.proofs.levels.links_end.Tie as tie
 use Rattle.network.proofs.levels.links_end.Reads as reads
@@ -14,53 +17,42 @@ Inv-loop n m entries end₀ p₀ end p = (p ≤ n) × (end ≡ levelAt m entries
 abbrev μ-loop : tie.MeasureT-loop
 μ-loop n m entries end₀ p₀ end p = n - p
 
--- src/levels.rt:70:26
 mul-end : tie.Need-mul-end Inv-loop μ-loop
 mul-end c = omega arith
 
--- src/levels.rt:70:19
 add-end : tie.Need-add-end Inv-loop μ-loop
 add-end c = omega arith
 
--- src/levels.rt:72:5
 loop-holds : tie.Need-loop-holds Inv-loop μ-loop
-loop-holds c = (omega arith, sym (first-at (c .args .m) (c .args .t3)))
+loop-holds c = (omega arith, omega (arith, first-at (c .args .m) (c .args .t3), links-at))
 
--- src/levels.rt:73:17
 mul-e : tie.Need-mul-e Inv-loop μ-loop
 mul-e c = omega arith
 
--- src/levels.rt:73:17
 array-read-e : tie.Need-array-read-e Inv-loop μ-loop
 array-read-e c = omega arith
 
--- src/levels.rt:74:16
 mul-end-2 : tie.Need-mul-end-2 Inv-loop μ-loop
 mul-end-2 c =
     let a = c .before .before .args in
-    omega (arith, within (a .m) (a .t3) (c .before .loop .p) (a .n) (c .loop-test .taken))
+    omega (arith, within (a .m) (a .t3) (c .before .loop .p) (a .n) (c .loop-test .taken), work-size)
 
--- src/levels.rt:74:9
 add-end-2 : tie.Need-add-end-2 Inv-loop μ-loop
 add-end-2 c =
     let a = c .before .before .args in
-    omega (arith, within (a .m) (a .t3) (c .before .loop .p) (a .n) (c .loop-test .taken))
+    omega (arith, within (a .m) (a .t3) (c .before .loop .p) (a .n) (c .loop-test .taken), work-size)
 
--- src/levels.rt:75:9
 add-p : tie.Need-add-p Inv-loop μ-loop
 add-p c = omega arith
 
--- src/levels.rt:72:5
 loop-less : tie.Need-loop-less Inv-loop μ-loop
 loop-less c = omega arith
 
--- src/levels.rt:72:5
 loop-again : tie.Need-loop-again Inv-loop μ-loop
 loop-again c =
     let a = c .before .before .args in
     (omega arith, omega (arith, next-at (a .m) (a .t3) (c .before .loop .p), c .before .loop .inv .1))
 
--- src/levels.rt:66:1
 returns : tie.Need-returns Inv-loop μ-loop
 returns c =
     let a = c .before .before .args in

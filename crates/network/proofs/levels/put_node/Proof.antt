@@ -1,3 +1,5 @@
+-- `network::levels::put_node` meets its contract: three numbers, one after the other.
+-- Assumes nothing.
 use borrow.Author.Needs.{needs}
 use native.Mathlib.Numerals.{add-one, add-two}
 use native.Mathlib.Omega.{arith}
@@ -7,59 +9,45 @@ use Rattle.network.proofs.levels.put_node.Tie as tie
 use Rattle.network.proofs.levels.put_node.Reads as reads
 use Rattle.network.proofs.levels.put_node.Lts as lts
 
--- src/levels.rt:18:13
 mul-i : tie.Need-mul-i
 mul-i c = search needs
 
--- src/levels.rt:19:16
 cast-cells : tie.Need-cast-cells
 cast-cells c = search needs
 
--- src/levels.rt:19:5
 mul-cells : tie.Need-mul-cells
 mul-cells c = search needs
 
--- src/levels.rt:19:5
 slice-write-cells : tie.Need-slice-write-cells
 slice-write-cells c = search needs
 
--- src/levels.rt:20:20
 cast-cells-2 : tie.Need-cast-cells-2
 cast-cells-2 c = search needs
 
--- src/levels.rt:20:11
 add-cells : tie.Need-add-cells
 add-cells c = search needs
 
--- src/levels.rt:20:5
 mul-cells-2 : tie.Need-mul-cells-2
 mul-cells-2 c = search needs
 
--- src/levels.rt:20:5
 slice-write-cells-2 : tie.Need-slice-write-cells-2
 slice-write-cells-2 c = simp length-set (omega arith)
 
--- src/levels.rt:21:20
 cast-cells-3 : tie.Need-cast-cells-3
 cast-cells-3 c = search needs
 
--- src/levels.rt:21:11
 add-cells-2 : tie.Need-add-cells-2
 add-cells-2 c = search needs
 
--- src/levels.rt:21:5
 mul-cells-3 : tie.Need-mul-cells-3
 mul-cells-3 c = search needs
 
--- src/levels.rt:21:5
 slice-write-cells-3 : tie.Need-slice-write-cells-3
 slice-write-cells-3 c = search needs
 
--- src/levels.rt:14:1
 same-length : tie.Need-same-length
 same-length c = search needs
 
--- src/levels.rt:14:1
 returns : tie.Need-returns
 returns c = rw (add-one, add-two)
 

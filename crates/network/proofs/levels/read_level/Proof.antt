@@ -1,8 +1,10 @@
+-- `network::levels::read_level` meets its contract: after j turns, what j entries make.
+-- Assumes nothing.
 use mathlib.Core.Path.{_≡_, refl, ap, _∙_}
 use Prim.Native.Nat.{_≤_, _-_}
 use native.Mathlib.Omega.{arith}
 use denote.Ref.{now}
-use Rattle.network.specs.Levels.{made, levelMade}
+use Rattle.network.specs.inner.Levels.{made, levelMade}
 use Rattle.network.proofs.Entries.{turn-work, turn-cells, turn-next, turn-made}
 use Rattle.network.proofs.levels.read_level.Statement.{statement}
 use Rattle.network.proofs.levels.read_level.Tie as tie
@@ -17,20 +19,16 @@ Inv-loop p work₀ i e below base cells₀ next₀ j₀ work cells next j =
 abbrev μ-loop : tie.MeasureT-loop
 μ-loop p work₀ i e below base cells₀ next₀ j₀ work cells next j = e - j
 
--- src/levels.rt:57:5
 loop-holds : tie.Need-loop-holds Inv-loop μ-loop
 unfolding levelMade
 loop-holds c = (omega arith, refl)
 
--- src/levels.rt:58:22
 mul-at : tie.Need-mul-at Inv-loop μ-loop
 mul-at c = omega arith
 
--- src/levels.rt:58:18
 add-at : tie.Need-add-at Inv-loop μ-loop
 add-at c = omega arith
 
--- src/levels.rt:59:9
 read-entry-requires : tie.Need-read-entry-requires Inv-loop μ-loop
 read-entry-requires c κs =
     let a = c .before .before .before .before .before .before .args in
@@ -44,39 +42,38 @@ read-entry-requires c κs =
       turn-next (a .p) (a .below) (a .i) (a .e) (l .j) s u (l .inv .1) (c .before .before .loop-test .taken),
     )
 
--- src/levels.rt:60:9
 add-j : tie.Need-add-j Inv-loop μ-loop
 add-j c = omega arith
 
--- src/levels.rt:57:5
 loop-less : tie.Need-loop-less Inv-loop μ-loop
 loop-less c = omega arith
 
--- src/levels.rt:57:5
 loop-again : tie.Need-loop-again Inv-loop μ-loop
 loop-again c =
     let a = c .before .before .before .before .before .before .before .before .before .before .before .args in
     let l = c .before .before .before .before .before .before .before .before .loop in
     let s = made (now (a .work)) (now (a .cells)) (a .base) in
     let u = made (l .work) (l .cells) (l .next) in
-    let r = c .before .before .before .before .read-entry in
-    (omega arith, turn-made (a .p) (a .below) (a .i) (a .e) (l .j) s u (l .inv .1) (made (r .last .1 .0) (r .last .1 .1 .1 .1 .1 .0) (r .result)) (r .ensures))
+    let r = c .before .before .before .before .read-entry in (
+      omega arith,
+      turn-made (a .p) (a .below) (a .i) (a .e) (l .j) s u (l .inv .1)
+          (made (r .last .1 .0) (r .last .1 .1 .1 .1 .1 .0) (r .result)) (r .ensures),
+    )
 
--- src/levels.rt:49:1
 same-length : tie.Need-same-length Inv-loop μ-loop
 same-length c =
     let a = c .before .before .before .before .args in
     let l = c .before .loop in
-    turn-work (a .p) (a .below) (a .i) (a .e) (l .j) (made (now (a .work)) (now (a .cells)) (a .base)) (made (l .work) (l .cells) (l .next)) (l .inv .1)
+    turn-work (a .p) (a .below) (a .i) (a .e) (l .j) (made (now (a .work)) (now (a .cells)) (a .base)) (made (l .work) (l .cells) (l .next))
+    (l .inv .1)
 
--- src/levels.rt:49:1
 same-length-2 : tie.Need-same-length-2 Inv-loop μ-loop
 same-length-2 c =
     let a = c .before .before .before .before .args in
     let l = c .before .loop in
-    turn-cells (a .p) (a .below) (a .i) (a .e) (l .j) (made (now (a .work)) (now (a .cells)) (a .base)) (made (l .work) (l .cells) (l .next)) (l .inv .1)
+    turn-cells (a .p) (a .below) (a .i) (a .e) (l .j) (made (now (a .work)) (now (a .cells)) (a .base))
+    (made (l .work) (l .cells) (l .next)) (l .inv .1)
 
--- src/levels.rt:49:1
 returns : tie.Need-returns Inv-loop μ-loop
 returns c =
     let a = c .before .before .before .before .args in

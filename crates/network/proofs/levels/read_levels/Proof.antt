@@ -1,10 +1,12 @@
+-- `network::levels::read_levels` meets its contract: from the lowest level up, what the levels below make.
+-- Assumes nothing.
 use mathlib.Core.Path.{_≡_, sym, ap, ap₂, _∙_}
 use Prim.Native.Nat.{_≤_, _-_, _+_, _*_}
 use native.Mathlib.Omega.{arith}
 use denote.Ref.{now}
 use lib.ListN.{length, getD}
 use Rattle.table.specs.Stream.{sum}
-use Rattle.network.specs.Levels.{made, Made, levelAt, levelsMade}
+use Rattle.network.specs.inner.Levels.{made, Made, levelAt, levelsMade}
 use Rattle.network.proofs.Offsets.{sum-above, at-above, at-rises}
 use Rattle.network.proofs.LevelTurns.{no-levels, turn-level, levels-work, levels-cells}
 use Rattle.network.proofs.levels.read_levels.Statement.{statement}
@@ -22,26 +24,26 @@ Inv-loop n m end total work₀ cells₀ entries counts p₀ below₀ base₀ wor
 abbrev μ-loop : tie.MeasureT-loop
 μ-loop n m end total work₀ cells₀ entries counts p₀ below₀ base₀ work cells p below base = p
 
--- src/levels.rt:91:5
 loop-holds : tie.Need-loop-holds Inv-loop μ-loop
 loop-holds c =
     let a = c .before .before .args in
-    let none = no-levels (a .m) (a .t3) (a .t4) (a .n) (made (now (a .work)) (now (a .cells)) 0) in
-    (omega arith, c .before .before .pre .0 .1, c .before .before .pre .1 .0 .0, sym (ap (λ (u : Made). u .work) none), sym (ap (λ (u : Made). u .cells) none))
+    let none = no-levels (a .m) (a .t3) (a .t4) (a .n) (made (now (a .work)) (now (a .cells)) 0) in (
+      omega arith,
+      c .before .before .pre .0 .1,
+      c .before .before .pre .1 .0 .0,
+      sym (ap (λ (u : Made). u .work) none),
+      sym (ap (λ (u : Made). u .cells) none),
+    )
 
--- src/levels.rt:92:9
 sub-p : tie.Need-sub-p Inv-loop μ-loop
 sub-p c = omega arith
 
--- src/levels.rt:93:17
 mul-e : tie.Need-mul-e Inv-loop μ-loop
 mul-e c = omega arith
 
--- src/levels.rt:93:17
 array-read-e : tie.Need-array-read-e Inv-loop μ-loop
 array-read-e c = omega arith
 
--- src/levels.rt:94:25
 mul-i : tie.Need-mul-i Inv-loop μ-loop
 mul-i c =
     let a = c .before .before .before .before .args in
@@ -49,7 +51,6 @@ mul-i c =
     let h : l .p ≡ l .p - 1 + 1 = omega arith in
     omega (arith, at-above (l .p) (l .p - 1) h (a .m) (a .t3), at-rises (a .m) (a .t3) (l .p) (a .n) (l .inv .0))
 
--- src/levels.rt:94:17
 sub-i : tie.Need-sub-i Inv-loop μ-loop
 sub-i c =
     let a = c .before .before .before .before .args in
@@ -57,15 +58,12 @@ sub-i c =
     let h : l .p ≡ l .p - 1 + 1 = omega arith in
     omega (arith, at-above (l .p) (l .p - 1) h (a .m) (a .t3))
 
--- src/levels.rt:95:17
 mul-base : tie.Need-mul-base Inv-loop μ-loop
 mul-base c = omega arith
 
--- src/levels.rt:95:17
 array-read-base : tie.Need-array-read-base Inv-loop μ-loop
 array-read-base c = omega arith
 
--- src/levels.rt:95:9
 sub-base : tie.Need-sub-base Inv-loop μ-loop
 sub-base c =
     let a = c .before .before .before .before .args in
@@ -73,7 +71,6 @@ sub-base c =
     let h : l .p ≡ l .p - 1 + 1 = omega arith in
     omega (arith, sum-above (l .p) (l .p - 1) h (λ q. getD (a .t4) q 0))
 
--- src/levels.rt:96:9
 read-level-requires : tie.Need-read-level-requires Inv-loop μ-loop
 read-level-requires c κs =
     let a = c .before .before .before .before .before .before .args in
@@ -91,11 +88,9 @@ read-level-requires c κs =
     let few = c .before .before .before .before .before .before .pre .1 .1 (l .p - 1) (omega arith) in
     omega (arith, ap (λ (u : Made). u .next) level)
 
--- src/levels.rt:91:5
 loop-less : tie.Need-loop-less Inv-loop μ-loop
 loop-less c = omega arith
 
--- src/levels.rt:91:5
 loop-again : tie.Need-loop-again Inv-loop μ-loop
 loop-again c =
     let a = c .before .before .before .before .before .before .before .before .before .before .before .args in
@@ -111,21 +106,18 @@ loop-again c =
     (l .below - 4 * getD (a .t3) (l .p - 1) 0) (l .below) (l .base - getD (a .t4) (l .p - 1) 0) (omega arith) (l .inv .1) (omega arith) in
     (omega arith, omega arith, omega arith, ap (λ (u : Made). u .work) level, ap (λ (u : Made). u .cells) level)
 
--- src/levels.rt:81:1
 same-length : tie.Need-same-length Inv-loop μ-loop
 same-length c =
     let a = c .before .before .before .before .args in
     let l = c .before .loop in
     ap length (l .inv .3) ∙ levels-work (a .m) (a .t3) (a .t4) (l .p) (a .n - l .p) (made (now (a .work)) (now (a .cells)) 0)
 
--- src/levels.rt:81:1
 same-length-2 : tie.Need-same-length-2 Inv-loop μ-loop
 same-length-2 c =
     let a = c .before .before .before .before .args in
     let l = c .before .loop in
     ap length (l .inv .4) ∙ levels-cells (a .m) (a .t3) (a .t4) (l .p) (a .n - l .p) (made (now (a .work)) (now (a .cells)) 0)
 
--- src/levels.rt:81:1
 returns : tie.Need-returns Inv-loop μ-loop
 returns c =
     let a = c .before .before .before .before .args in

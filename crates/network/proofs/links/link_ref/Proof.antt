@@ -1,9 +1,13 @@
+-- `network::links::link_ref` meets its contract: a constant, or the reference that stands with the entry, inverted where the link is.
+-- Assumes nothing.
 use borrow.Author.Needs.{needs}
 use mathlib.Core.Path.{sym, ap, _∙_}
+use native.Mathlib.Omega.{arith}
 use denote.Ref.{now}
-use Rattle.diagram.specs.Trace.{opposite}
+use Rattle.diagram.specs.inner.Trace.{opposite}
 use Rattle.diagram.specs.Diagram.{inverts}
 use mathlib.Core.Bool.{true}
+use Rattle.fill.proofs.Holding.{work-size}
 use Rattle.network.proofs.LinkRefs.{ref-constant, ref-entry}
 use Rattle.network.proofs.links.link_ref.Statement.{statement}
 use Rattle.network.proofs.links.link_ref.Tie as tie
@@ -12,37 +16,33 @@ use Rattle.network.proofs.links.link_ref.Lts as lts
 use Rattle.network.proofs.links.turned.Reads as turned-reads
 use Rattle.network.proofs.links.stored_at.Reads as stored-at-reads
 
--- src/links.rt:49:9
 returns : tie.Need-returns
 returns c =
     let a = c .before .before .args in
     (sym (ref-constant (now (a .work)) (a .below) (a .k) (search needs)), search needs)
 
--- src/links.rt:51:40
 sub-stored-at : tie.Need-sub-stored-at
 sub-stored-at c = search needs
 
--- src/links.rt:51:35
 mul-stored-at : tie.Need-mul-stored-at
 mul-stored-at c = search needs
 
--- src/links.rt:51:27
 add-stored-at : tie.Need-add-stored-at
-add-stored-at c = search needs
+add-stored-at c = omega (arith, work-size)
 
--- src/links.rt:51:9
 stored-at-requires : tie.Need-stored-at-requires
-stored-at-requires c κs = search needs
+stored-at-requires c κs = omega (arith, work-size)
 
--- src/links.rt:52:5
 turned-requires : tie.Need-turned-requires
 turned-requires c κs = search needs
 
--- src/links.rt:44:1
 returns-2 : tie.Need-returns-2
 returns-2 c =
-    let a = c .before .before .before .before .args in
-    (c .turned .ensures .0 ∙ ap (opposite (inverts true (a .k))) (c .before .stored-at .ensures .0) ∙ sym (ref-entry (now (a .work)) (a .below) (a .k) (search needs)), c .turned .ensures .1)
+    let a = c .before .before .before .before .args in (
+      c .turned .ensures .0 ∙ ap (opposite (inverts true (a .k))) (c .before .stored-at .ensures .0)
+          ∙ sym (ref-entry (now (a .work)) (a .below) (a .k) (search needs)),
+      c .turned .ensures .1,
+    )
 
 pub link-ref-spec : {M : Type 1} → statement M
 link-ref-spec =

@@ -1,3 +1,5 @@
+-- `network::links::turned` meets its contract: by whether the reference inverts.
+-- Assumes nothing.
 use borrow.Author.Needs.{needs}
 use native.Mathlib.Omega.{arith}
 use mathlib.Core.Path.{sym}
@@ -8,27 +10,22 @@ use Rattle.network.proofs.links.turned.Tie as tie
 use Rattle.network.proofs.links.turned.Reads as reads
 use Rattle.network.proofs.links.turned.Lts as lts
 
--- src/links.rt:35:9
 returns : tie.Need-returns
 returns c =
     let a = c .before .args in
     (sym (opposite-plain (a .odd) (a .r) (not-true (a .odd) (c .if1 .taken))), search needs)
 
--- src/links.rt:38:16
 sub-result : tie.Need-sub-result
 sub-result c = search needs
 
--- src/links.rt:38:9
 returns-2 : tie.Need-returns-2
 returns-2 c =
     let a = c .before .before .args in
     (sym (opposite-odd (a .odd) (a .r) (not-false (a .odd) (c .before .if1 .left)) (c .if2 .taken)), omega arith)
 
--- src/links.rt:40:5
 add-result : tie.Need-add-result
 add-result c = search needs
 
--- src/links.rt:30:1
 returns-3 : tie.Need-returns-3
 returns-3 c =
     let a = c .before .before .args in

@@ -1,7 +1,11 @@
+-- `network::roots::root_of` meets its contract: zero past the outputs, else the reference of the output's link.
+-- Assumes nothing.
 use borrow.Author.Needs.{needs}
 use mathlib.Core.Path.{sym, ap, _∙_}
+use Prim.Native.Nat.{_+_, _*_}
 use denote.Ref.{now}
-use Rattle.network.specs.Levels.{refAt}
+use Rattle.network.specs.inner.Levels.{storedAt, refAt}
+use Rattle.network.proofs.Offsets.{links-at}
 use Rattle.network.proofs.RootTurns.{root-past, root-link}
 use Rattle.network.proofs.roots.root_of.Statement.{statement}
 use Rattle.network.proofs.roots.root_of.Tie as tie
@@ -10,33 +14,29 @@ use Rattle.network.proofs.roots.root_of.Lts as lts
 use Rattle.network.proofs.links.link_ref.Reads as link-ref-reads
 use Rattle.network.proofs.links.stored_at.Reads as stored-at-reads
 
--- src/roots.rt:16:9
 returns : tie.Need-returns
 returns c =
     let a = c .before .before .args in
     (sym (root-past (now (a .work)) (a .m) (a .below) (a .j) (c .if1 .taken)), search needs)
 
--- src/roots.rt:18:34
 mul-stored-at : tie.Need-mul-stored-at
 mul-stored-at c = search needs
 
--- src/roots.rt:18:27
 add-stored-at : tie.Need-add-stored-at
 add-stored-at c = search needs
 
--- src/roots.rt:18:9
 stored-at-requires : tie.Need-stored-at-requires
 stored-at-requires c κs = search needs
 
--- src/roots.rt:19:5
 link-ref-requires : tie.Need-link-ref-requires
 link-ref-requires c κs = search needs
 
--- src/roots.rt:11:1
 returns-2 : tie.Need-returns-2
 returns-2 c =
     let a = c .before .before .before .before .args in (
-      c .link-ref .ensures .0 ∙ ap (refAt (now (a .work)) (a .below)) (c .before .stored-at .ensures .0)
+      c .link-ref .ensures .0
+          ∙ ap (refAt (now (a .work)) (a .below))
+          (c .before .stored-at .ensures .0 ∙ ap (λ x. storedAt (now (a .work)) (x + 2 * a .j)) (sym links-at))
           ∙ sym (root-link (now (a .work)) (a .m) (a .below) (a .j) (c .before .before .if1 .left)),
       c .link-ref .ensures .1,
     )

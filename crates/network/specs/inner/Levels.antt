@@ -1,5 +1,5 @@
 -- The network read off the links in the work buffer, one entry after the other, from the lowest level up. An entry has two links of two
--- bytes; once it is read, its reference stands in the place of the first.
+-- bytes; once it is read, its reference stands in the first one's bytes.
 -- Assumes nothing.
 use mathlib.Core.Bool.{true, cond}
 use mathlib.Core.List.{List, [], _∷_}
@@ -9,13 +9,15 @@ use lib.ListN.{getD, set}
 use lib.Seq.{sets}
 use Rattle.diagram.specs.Diagram.{inverts}
 use Rattle.diagram.specs.Network.{reference}
-use Rattle.diagram.specs.Trace.{opposite}
-use Rattle.table.specs.declared.Stage.the-variants.{Network}
-use Rattle.table.specs.declared.State.{State}
+use Rattle.diagram.specs.inner.Trace.{opposite}
 use Rattle.table.specs.Stream.{sum}
 use Rattle.fill.specs.Work.{linksAt}
 
--- the 16-bit number at byte i, low byte first, and another one put there
+-- what a number of two bytes is below
+abbrev pub storedLimit : ℕ
+storedLimit = 65536
+
+-- the number of two bytes at byte i, low byte first, and another one put there
 abbrev pub storedAt : List ℕ → ℕ → ℕ
 storedAt work i = getD work i 0 + 256 * getD work (i + 1) 0
 
@@ -74,7 +76,3 @@ levelFrom m entries counts p s =
 unfoldable pub levelsMade : ℕ → List ℕ → List ℕ → ℕ → ℕ → Made → Made
 levelsMade m entries counts p zero s = s
 levelsMade m entries counts p (suc k) s = levelFrom m entries counts p (levelsMade m entries counts (suc p) k s)
-
--- the state that holds a network of so many nodes
-abbrev pub networkState : State → ℕ → State
-networkState s count = record { n = s .n; m = s .m; order = s .order; count = count; stage = Network }

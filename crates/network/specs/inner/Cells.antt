@@ -7,6 +7,7 @@ use lib.Dec.{T}
 use lib.ListN.{length, getD, take}
 use Rattle.diagram.specs.Lists.{all, upTo}
 use Rattle.diagram.specs.Diagram.{Diagram, refers, nodeGood, gives}
+use Rattle.diagram.specs.Bound.{mostVariables, mostOutputs}
 use Rattle.diagram.specs.Order.{isOrder, rowUnder}
 use Rattle.network.specs.Lent.{lentNode}
 
@@ -16,14 +17,14 @@ lentCells count cells = record { nodes = map (lentNode cells) (upTo count); root
 
 -- an order of n variables, and counted cells, all lent, that are good for n levels
 pub record Followable (n count : ℕ) (order cells : List ℕ) : Type 0 where
-  pub few : n ≤ 10
+  pub few : n ≤ mostVariables
   pub ordered : T (isOrder n (take n order))
   pub held : count ≤ length cells / 3
   pub good : T (all (nodeGood true n (lentCells count cells)) (lentCells count cells .nodes))
 
 -- the first m of the lent roots, each a constant or to a counted cell
 pub record Rooted (m count : ℕ) (roots cells : List ℕ) : Type 0 where
-  pub few : m ≤ 16
+  pub few : m ≤ mostOutputs
   pub fit : m ≤ length roots
   pub own : T (all (refers true (lentCells count cells)) (take m roots))
 
