@@ -1,10 +1,10 @@
 -- What an accepted file keeps: each test of section 6's sequence.
 -- Assumes nothing.
 use mathlib.Core.Path.{_≡_, refl, sym, subst}
-use mathlib.Core.Bool.{Bool, true, false, cond, _&&_}
+use mathlib.Core.Bool.{Bool, true, false, _&&_}
 use mathlib.Core.List.{List}
 use mathlib.Core.Logic.{_≢_}
-use Prim.Native.Nat.{ℕ, zero, suc, _+_, _*_, _%_, _≤_, _<_}
+use Prim.Native.Nat.{ℕ, zero, suc, _+_, _*_, _-_, _≤_, _<_}
 use native.Mathlib.Omega.{arith}
 use borrow.Author.Tests.{eqb-true, eqb-false}
 use lib.Dec.{T, eqb, leb, eqb→eq, leb→le}
@@ -13,9 +13,12 @@ use Rattle.diagram.specs.Bound.{mostVariables, mostOutputs}
 use Rattle.diagram.specs.Order.{isOrder}
 use Rattle.diagram.proofs.Bools.{split, to-T, absurd-T, and-l, and-r}
 use Rattle.table.specs.declared.Answer.{Answer}
-use Rattle.table.specs.declared.Answer.the-variants.{Done, BadLength, BadCheck, BadKind, BadInputs, BadOutputs, BadOrder, BadContent}
-use Rattle.table.specs.Answer.{unless, done}
-use Rattle.table.specs.File.{goodCheck, goodKind, goodTail, goodRest, fileInputs, fileOutputs, fileOrder, streamBits, streamBlocks, firstBit, blockAnswer, blocksAnswer, streamsAnswer, fileAnswer}
+use Rattle.table.specs.declared.Answer.the-variants.{Done, BadLength, BadCheck, BadKind}
+use Rattle.table.specs.declared.Answer.the-variants.{BadInputs, BadOutputs, BadOrder, BadContent}
+use Rattle.table.specs.Answer.{unless, unlessRefused, done}
+use Rattle.block.specs.Block.{blockSize, wholeBlocks, goodCheck, unusedZero, unusedBitsZero}
+use Rattle.table.specs.File.{goodKind, fileInputs, fileOutputs, fileOrder, fieldsAnswer, headingAnswer, streamBits, streamBlocks}
+use Rattle.table.specs.File.{firstBit, tailAnswer, blockAnswer, blocksAnswer, streamsAnswer, fileAnswer}
 
 -- a success passes each test
 unless-done : (ok : Bool) (refusal rest : Answer) → done refusal ≡ false → T (done (unless ok refusal rest)) → T ok × T (done rest)
@@ -26,16 +29,18 @@ unless-done false refusal rest e t = absurd-T t e
 pub record AcceptedBlock (bits blocks : ℕ) (file : List ℕ) (k : ℕ) : Type 0 where
   pub check : T (goodCheck file k)
   pub kind : T (goodKind blocks file k)
-  pub tail : T (goodTail bits file k (firstBit blocks k))
+  pub tail : T (unusedBitsZero file k (bits - firstBit blocks k))
 
-pub accepted-block : (bits blocks : ℕ) (file : List ℕ) (k : ℕ) → T (done (blockAnswer bits blocks file k)) → AcceptedBlock bits blocks file k
-unfolding blockAnswer
+pub accepted-block : (bits blocks : ℕ) (file : List ℕ) (k : ℕ) → T (done (blockAnswer bits blocks file k))
+    → AcceptedBlock bits blocks file k
+unfolding blockAnswer tailAnswer
 accepted-block bits blocks file k t =
     let u = unless-done (goodCheck file k) BadCheck _ refl t in
     let v = unless-done (goodKind blocks file k) BadKind _ refl (u .1) in
-    record { check = u .0; kind = v .0; tail = unless-done (goodTail bits file k (firstBit blocks k)) BadContent (Done 0) refl (v .1) .0 }
+    let w = unless-done (unusedBitsZero file k (bits - firstBit blocks k)) BadContent (Done 0) refl (v .1) in
+    record { check = u .0; kind = v .0; tail = w .0 }
 
-both-done : (a rest : Answer) → T (done (cond (done a) rest a)) → T (done a) × T (done rest)
+both-done : (a rest : Answer) → T (done (unlessRefused a rest)) → T (done a) × T (done rest)
 both-done a rest t = split (done a) (λ e. (to-T e, rw e at t)) (λ e. absurd-T {b = done a} (rw e at t) e)
 
 -- each of the `left` blocks from block k on
@@ -48,16 +53,41 @@ accepted-from bits blocks file k (suc left) t j h l =
     split (eqb j k) (λ e. subst (λ (i : ℕ). T (done (blockAnswer bits blocks file i))) (sym (eqb-true j k e)) (u .0))
     (λ e. let d : j ≢ k = eqb-false j k e in accepted-from bits blocks file (suc k) left (u .1) j (omega arith) (omega arith))
 
--- an accepted file
-pub record Accepted (file : List ℕ) : Type 0 where
+-- the heading of an accepted file
+pub record AcceptedHeading (file : List ℕ) : Type 0 where
   pub check : T (goodCheck file 0)
   pub kind : T (goodKind 0 file 0)
-  pub inputs : fileInputs file ≤ 10
+  pub inputs : fileInputs file ≤ mostVariables
   pub one-output : 1 ≤ fileOutputs file
-  pub outputs : fileOutputs file ≤ 16
+  pub outputs : fileOutputs file ≤ mostOutputs
   pub order : T (isOrder (fileInputs file) (fileOrder file))
-  pub rest : T (goodRest file)
-  pub long : length file ≡ 512 * (1 + 2 * streamBlocks (fileInputs file) (fileOutputs file))
+  pub rest : T (unusedZero file 0 (6 + fileInputs file))
+
+pub accepted-heading : (file : List ℕ) → T (done (headingAnswer file)) → AcceptedHeading file
+unfolding headingAnswer fieldsAnswer
+accepted-heading file t =
+    let n : ℕ = fileInputs file in
+    let m : ℕ = fileOutputs file in
+    let c = unless-done (goodCheck file 0) BadCheck _ refl t in
+    let k = unless-done (goodKind 0 file 0) BadKind _ refl (c .1) in
+    let i = unless-done (leb n mostVariables) BadInputs _ refl (k .1) in
+    let o = unless-done (leb 1 m && leb m mostOutputs) BadOutputs _ refl (i .1) in
+    let p = unless-done (isOrder n (fileOrder file)) BadOrder _ refl (o .1) in
+    let r = unless-done (unusedZero file 0 (6 + n)) BadContent (Done 0) refl (p .1) in
+    record {
+      check = c .0;
+      kind = k .0;
+      inputs = leb→le n mostVariables (i .0);
+      one-output = leb→le 1 m (and-l (leb 1 m) (leb m mostOutputs) (o .0));
+      outputs = leb→le m mostOutputs (and-r (leb 1 m) (leb m mostOutputs) (o .0));
+      order = p .0;
+      rest = r .0;
+    }
+
+-- an accepted file
+pub record Accepted (file : List ℕ) : Type 0 where
+  pub heading : AcceptedHeading file
+  pub long : length file ≡ blockSize * (1 + 2 * streamBlocks (fileInputs file) (fileOutputs file))
   pub blocks : (k : ℕ) → 1 ≤ k → k ≤ 2 * streamBlocks (fileInputs file) (fileOutputs file)
       → AcceptedBlock (streamBits (fileInputs file) (fileOutputs file)) (streamBlocks (fileInputs file) (fileOutputs file)) file k
 
@@ -66,23 +96,12 @@ unfolding fileAnswer streamsAnswer
 accepted file t =
     let n : ℕ = fileInputs file in
     let m : ℕ = fileOutputs file in
-    let l = unless-done (leb 1 (length file) && eqb (length file % 512) 0) BadLength _ refl t in
-    let c = unless-done (goodCheck file 0) BadCheck _ refl (l .1) in
-    let k = unless-done (goodKind 0 file 0) BadKind _ refl (c .1) in
-    let i = unless-done (leb n mostVariables) BadInputs _ refl (k .1) in
-    let o = unless-done (leb 1 m && leb m mostOutputs) BadOutputs _ refl (i .1) in
-    let p = unless-done (isOrder n (fileOrder file)) BadOrder _ refl (o .1) in
-    let r = unless-done (goodRest file) BadContent _ refl (p .1) in
-    let s = unless-done (eqb (length file) (512 * (1 + 2 * streamBlocks n m))) BadLength _ refl (r .1) in
+    let l = unless-done (wholeBlocks file) BadLength _ refl t in
+    let h = both-done (headingAnswer file) _ (l .1) in
+    let s = unless-done (eqb (length file) (blockSize * (1 + 2 * streamBlocks n m))) BadLength _ refl (h .1) in
     record {
-      check = c .0;
-      kind = k .0;
-      inputs = leb→le n 10 (i .0);
-      one-output = leb→le 1 m (and-l (leb 1 m) (leb m mostOutputs) (o .0));
-      outputs = leb→le m 16 (and-r (leb 1 m) (leb m mostOutputs) (o .0));
-      order = p .0;
-      rest = r .0;
-      long = eqb→eq (length file) (512 * (1 + 2 * streamBlocks n m)) (s .0);
-      blocks = λ j g h. accepted-block (streamBits n m) (streamBlocks n m) file j
+      heading = accepted-heading file (h .0);
+      long = eqb→eq (length file) (blockSize * (1 + 2 * streamBlocks n m)) (s .0);
+      blocks = λ j g k. accepted-block (streamBits n m) (streamBlocks n m) file j
           (accepted-from (streamBits n m) (streamBlocks n m) file 1 (2 * streamBlocks n m) (s .1) j g (omega arith));
     }

@@ -13,10 +13,14 @@ use denote.Enum.Declared.{tagOf}
 use lib.Dec.{eqb}
 use lib.ListN.{length}
 use lib.Pow.{pow-mono}
+use Rattle.diagram.specs.Bound.{mostVariables, mostOutputs}
+use Rattle.block.specs.Block.{blockSize, contentBits}
 use Rattle.table.specs.declared.Answer.{Answer}
-use Rattle.table.specs.declared.Answer.the-variants.{Done, BadLength, BadCheck, BadKind, BadInputs, BadOutputs, BadOrder, BadContent, NoRow, NoSuch, ShortBuffer, NoTable, NoNetwork, TooSmall, BadCells}
+use Rattle.table.specs.declared.Answer.the-variants.{Done, BadLength, BadCheck, BadKind, BadInputs, BadOutputs, BadOrder}
+use Rattle.table.specs.declared.Answer.the-variants.{BadContent, NoRow, NoSuch, ShortBuffer, NoTable, NoNetwork, TooSmall, BadCells}
 use Rattle.table.proofs.Answer.{the-type}
 use Rattle.table.specs.Answer.{done}
+use Rattle.table.specs.inner.Sizes.{mostBits, mostBlocks}
 use Rattle.table.specs.File.{streamBlocks, blockAnswer, blocksAnswer, streamsAnswer}
 
 -- a success is the first variant
@@ -65,30 +69,34 @@ module _ (bits blocks : ℕ) (file : List ℕ) (last k : ℕ) where
   unfolding blocksAnswer
   blocks-end h = let n : suc last - k ≡ 0 = omega arith in rw n
 
--- a stream has at most 16,384 bits, in at most 5 blocks
-pub stream-small : (n m : ℕ) → n ≤ 10 → m ≤ 16 → m * 2 ^ n ≤ 16384
-stream-small n m h k = mul-le-mul {n₂ = 16} {m₂ = 1024} k (pow-mono {j = 10} h)
+-- how many bits a stream has, and in how many blocks
+pub stream-small : (n m : ℕ) → n ≤ mostVariables → m ≤ mostOutputs → m * 2 ^ n ≤ mostBits
+stream-small n m h k = mul-le-mul {n₂ = mostOutputs} {m₂ = 2 ^ mostVariables} k (pow-mono {j = mostVariables} h)
 
-pub shifted-out : (n m : ℕ) → n ≤ 10 → m ≤ 16 → m * 2 ^ n % 18446744073709551616 ≡ m * 2 ^ n
+pub shifted-out : (n m : ℕ) → n ≤ mostVariables → m ≤ mostOutputs → m * 2 ^ n % 18446744073709551616 ≡ m * 2 ^ n
 shifted-out n m h k = mod-eq-of-lt (omega (arith, stream-small n m h k))
 
-pub few-blocks : (n m : ℕ) → n ≤ 10 → m ≤ 16 → streamBlocks n m ≤ 5
+pub few-blocks : (n m : ℕ) → n ≤ mostVariables → m ≤ mostOutputs → streamBlocks n m ≤ mostBlocks
 unfolding streamBlocks
 few-blocks n m h k = omega (arith, stream-small n m h k)
 
-pub blocks-for-is : (n m x : ℕ) → n ≤ 10 → m ≤ 16 → x ≡ (m * 2 ^ n % 18446744073709551616 + 4047) / 4048 → x ≡ streamBlocks n m
+pub blocks-for-is : (n m x : ℕ) → n ≤ mostVariables → m ≤ mostOutputs
+    → x ≡ (m * 2 ^ n % 18446744073709551616 + (contentBits - 1)) / contentBits → x ≡ streamBlocks n m
 unfolding streamBlocks
-blocks-for-is n m x h k e = e ∙ ap (λ (b : ℕ). (b + 4047) / 4048) (shifted-out n m h k)
+blocks-for-is n m x h k e = e ∙ ap (λ (b : ℕ). (b + (contentBits - 1)) / contentBits) (shifted-out n m h k)
 
 -- the block count, then the blocks
 module _ (file : List ℕ) (n m r : ℕ) (e : r ≡ streamBlocks n m) where
-  pub wrong-count : (length file ≡ 512 * (1 + 2 * r) → ⊥) → BadLength ≡ streamsAnswer file n m
+  pub wrong-count : (length file ≡ blockSize * (1 + 2 * r) → ⊥) → BadLength ≡ streamsAnswer file n m
   unfolding streamsAnswer
-  wrong-count d = rw (ne-eqb (length file) (512 * (1 + 2 * streamBlocks n m)) (λ q. d (q ∙ ap (λ (b : ℕ). 512 * (1 + 2 * b)) (sym e))))
+  wrong-count d =
+      rw (ne-eqb (length file) (blockSize * (1 + 2 * streamBlocks n m))
+      (λ q. d (q ∙ ap (λ (b : ℕ). blockSize * (1 + 2 * b)) (sym e))))
 
-  pub right-count : (bits : ℕ) (a : Answer) → length file ≡ 512 * (1 + 2 * r) → bits ≡ m * 2 ^ n → a ≡ blocksAnswer bits r file 1 (2 * r)
+  pub right-count : (bits : ℕ) (a : Answer) → length file ≡ blockSize * (1 + 2 * r) → bits ≡ m * 2 ^ n
+      → a ≡ blocksAnswer bits r file 1 (2 * r)
       → a ≡ streamsAnswer file n m
   unfolding streamsAnswer
   right-count bits a d q o =
-      rw (eq-eqb (length file) (512 * (1 + 2 * streamBlocks n m)) (d ∙ ap (λ (b : ℕ). 512 * (1 + 2 * b)) e))
+      rw (eq-eqb (length file) (blockSize * (1 + 2 * streamBlocks n m)) (d ∙ ap (λ (b : ℕ). blockSize * (1 + 2 * b)) e))
       (o ∙ ap₂ (λ (x b : ℕ). blocksAnswer x b file 1 (2 * b)) q e)

@@ -15,10 +15,12 @@ use Rattle.diagram.specs.Lists.{digit}
 use Rattle.diagram.proofs.Bits.{one-shifted}
 use Rattle.table.specs.declared.State.{State}
 use Rattle.table.specs.declared.Answer.the-variants.{Done, ShortBuffer, NoTable}
-use Rattle.table.specs.Stream.{streamBit, sum, wordOf, caredBits}
+use Rattle.block.specs.Bits.{streamBit, sum, wordOf}
+use Rattle.table.specs.Stream.{caredBits}
 use Rattle.table.specs.State.{stageOf, isNothing}
 use Rattle.table.specs.Calls.{planeSize, caredAnswer}
-use Rattle.table.proofs.Words.{wordOf-lt, count-low}
+use Rattle.table.specs.inner.Sizes.{mostBits}
+use Rattle.block.proofs.Words.{wordOf-lt, count-low}
 
 -- the mask of the lowest k bits of a word
 pub mask-some : (k : ℕ) → k < 64 → 1 ≤ 1 * 2 ^ k % 2 ^ 64
@@ -37,31 +39,32 @@ module _ (bytes : List ℕ) (small : (i : ℕ) → getD bytes i 0 < 256) (w bits
 
   pub count-whole : 64 ≤ bits - 64 * w → Counted bytes w bits (ones x)
   count-whole h =
-      counted 64 (omega arith) (omega arith) x (sym (mod-eq-of-lt (subst (λ (z : ℕ). z < 2 ^ 64) (sym e) (wordOf-lt bytes small (8 * w) 8))))
+      counted 64 (omega arith) (omega arith) x
+      (sym (mod-eq-of-lt (subst (λ (z : ℕ). z < 2 ^ 64) (sym e) (wordOf-lt bytes small (8 * w) 8))))
 
   pub count-part : bits - 64 * w < 64 → Counted bytes w bits (ones (bitAnd x (1 * 2 ^ (bits - 64 * w) % 2 ^ 64 - 1)))
   count-part h =
       counted (bits - 64 * w) (omega arith) (omega arith) (bitAnd x (1 * 2 ^ (bits - 64 * w) % 2 ^ 64 - 1))
       (ap (λ (z : ℕ). bitAnd x (z - 1)) (one-shifted (bits - 64 * w) h) ∙ and-mask x (bits - 64 * w))
 
-pub bits-fit : (m n : ℕ) → m * 2 ^ n ≤ 16384 → m * 2 ^ n % 2 ^ 64 ≤ 16384
+pub bits-fit : (m n : ℕ) → m * 2 ^ n ≤ mostBits → m * 2 ^ n % 2 ^ 64 ≤ mostBits
 bits-fit m n h = let l : m * 2 ^ n < 2 ^ 64 = omega arith in rw (mod-eq-of-lt l) h
 
 -- the answer by what it is refused for
 
 module _ (s : State) (care : List ℕ) where
-  pub cared-short : length care < 2048 → caredAnswer s care ≡ ShortBuffer
-  unfolding caredAnswer planeSize
-  cared-short h = rw (lt-leb 2048 (length care) h)
+  pub cared-short : length care < planeSize → caredAnswer s care ≡ ShortBuffer
+  unfolding caredAnswer
+  cared-short h = rw (lt-leb planeSize (length care) h)
 
-  pub cared-no-table : 2048 ≤ length care → not (isNothing (stageOf s)) ≡ false → caredAnswer s care ≡ NoTable
-  unfolding caredAnswer planeSize
-  cared-no-table h e = rw (le-leb 2048 (length care) h, e)
+  pub cared-no-table : planeSize ≤ length care → not (isNothing (stageOf s)) ≡ false → caredAnswer s care ≡ NoTable
+  unfolding caredAnswer
+  cared-no-table h e = rw (le-leb planeSize (length care) h, e)
 
-  pub cared-done : 2048 ≤ length care → not (isNothing (stageOf s)) ≡ true → s .m * 2 ^ s .n ≤ 16384 → (x : ℕ)
+  pub cared-done : planeSize ≤ length care → not (isNothing (stageOf s)) ≡ true → s .m * 2 ^ s .n ≤ mostBits → (x : ℕ)
       → x ≡ sum (λ i. digit (streamBit care i)) (s .m * 2 ^ s .n % 2 ^ 64) → caredAnswer s care ≡ Done x
-  unfolding caredAnswer caredBits planeSize
+  unfolding caredAnswer caredBits
   cared-done h e l x d =
       let k : s .m * 2 ^ s .n < 2 ^ 64 = omega arith in
-      rw (le-leb 2048 (length care) h, e)
+      rw (le-leb planeSize (length care) h, e)
       (ap Done (ap (sum (λ i. digit (streamBit care i))) (sym (mod-eq-of-lt k)) ∙ sym d))

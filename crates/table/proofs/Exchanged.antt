@@ -1,4 +1,4 @@
--- An order with two neighbouring places exchanged is an order.
+-- An order with two neighbouring levels exchanged is an order.
 -- Assumes nothing.
 use mathlib.Core.Path.{_≡_, refl, sym, ap, ap₂, _∙_, subst}
 use mathlib.Core.Bool.{Bool, true, false, not, _&&_, _||_}
@@ -21,7 +21,7 @@ eqb-swap m n = both-ways (eqb m n) (eqb n m) (turn m n) (turn n m)
     turn : (i j : ℕ) → T (eqb i j) → T (eqb j i)
     turn i j t = subst (λ (k : ℕ). T (eqb k i)) (eqb→eq i j t) (eqb-refl i)
 
--- at the two places themselves
+-- at the two levels themselves
 
 and-turn : (a b c : Bool) → a && (b && c) ≡ b && (a && c)
 and-turn true true c = refl
@@ -73,7 +73,7 @@ exchanged-order n p l o h =
     to-order n (exchanged p l) (length-exchanged p l ∙ order-length n l o)
     (subst T (sym (all-exchanged (λ v. ltb v n) p l k)) (order-all n l o)) (subst T (sym (distinct-exchanged p l k)) (order-distinct n l o))
 
--- of the first n entries, the places below n are exchanged alike
+-- of the first n entries, levels below n are exchanged alike
 pub take-exchanged : (n p : ℕ) (l : List ℕ) → suc p < n → take n (exchanged p l) ≡ exchanged p (take n l)
 take-exchanged n p l h =
     take-set-lt n (set l p (getD l (suc p) 0)) (suc p) (getD l p 0) h

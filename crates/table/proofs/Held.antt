@@ -7,33 +7,32 @@ use Prim.Native.Nat.{ℕ, _*_, _^_, _≤_, _<_}
 use native.Mathlib.Omega.{arith}
 use borrow.Author.Tests.{le-leb, lt-leb}
 use lib.Dec.{T, leb, leb→le}
-use lib.ListN.{length, length-take}
 use Rattle.diagram.specs.Bound.{mostVariables, mostOutputs}
 use Rattle.diagram.specs.Order.{isOrder}
 use Rattle.diagram.proofs.Bools.{split, to-T, and-l, and-r}
-use Rattle.diagram.proofs.Order.{order-length}
 use Rattle.table.specs.declared.State.{State}
 use Rattle.table.specs.declared.Stage.the-variants.{Nothing}
 use Rattle.table.specs.State.{goodHeading, orderOf, stageOf, isNothing}
+use Rattle.table.specs.inner.Sizes.{mostBits}
 use Rattle.table.proofs.Answers.{stream-small}
 
 -- the first rule that is broken, or the order's
 
-pub many-inputs : (n m : ℕ) (order : List ℕ) → 10 < n → goodHeading n m order ≡ false
+pub many-inputs : (n m : ℕ) (order : List ℕ) → mostVariables < n → goodHeading n m order ≡ false
 unfolding goodHeading
-many-inputs n m order h = rw (lt-leb n 10 h)
+many-inputs n m order h = rw (lt-leb n mostVariables h)
 
 pub no-outputs : (n m : ℕ) (order : List ℕ) → m ≡ 0 → goodHeading n m order ≡ false
 unfolding goodHeading
 no-outputs n m order e = rw (lt-leb 1 m (omega arith)) (and-false (leb n mostVariables))
 
-pub many-outputs : (n m : ℕ) (order : List ℕ) → 16 < m → goodHeading n m order ≡ false
+pub many-outputs : (n m : ℕ) (order : List ℕ) → mostOutputs < m → goodHeading n m order ≡ false
 unfolding goodHeading
-many-outputs n m order h = rw (lt-leb m 16 h, and-false (leb 1 m)) (and-false (leb n mostVariables))
+many-outputs n m order h = rw (lt-leb m mostOutputs h, and-false (leb 1 m)) (and-false (leb n mostVariables))
 
-pub good-order : (n m : ℕ) (order : List ℕ) → n ≤ 10 → (m ≡ 0 → ⊥) → m ≤ 16 → goodHeading n m order ≡ isOrder n order
+pub good-order : (n m : ℕ) (order : List ℕ) → n ≤ mostVariables → (m ≡ 0 → ⊥) → m ≤ mostOutputs → goodHeading n m order ≡ isOrder n order
 unfolding goodHeading
-good-order n m order h d k = rw (le-leb n 10 h, le-leb 1 m (omega arith), le-leb m 16 k)
+good-order n m order h d k = rw (le-leb n mostVariables h, le-leb 1 m (omega arith), le-leb m mostOutputs k)
 
 -- the stage that a state counts as
 
@@ -48,9 +47,9 @@ stage-good s e = rw e
 -- what a heading that keeps the rules has
 
 module _ (n m : ℕ) (order : List ℕ) (g : T (goodHeading n m order)) where
-  pub heading-inputs : n ≤ 10
+  pub heading-inputs : n ≤ mostVariables
   unfolding goodHeading
-  heading-inputs = leb→le n 10 (and-l (leb n 10) _ g)
+  heading-inputs = leb→le n mostVariables (and-l (leb n mostVariables) _ g)
 
   pub heading-outputs : T (leb 1 m && leb m mostOutputs)
   unfolding goodHeading
@@ -67,7 +66,7 @@ module _ (s : State) (held : T (not (isNothing (stageOf s)))) where
   held-heading =
       split (goodHeading (s .n) (s .m) (orderOf s)) (λ e. to-T e) (λ e. absurd (rw (stage-bad s e) at held))
 
-  pub few-inputs : s .n ≤ 10
+  pub few-inputs : s .n ≤ mostVariables
   few-inputs = heading-inputs (s .n) (s .m) (orderOf s) held-heading
 
   in-range : T (leb 1 (s .m) && leb (s .m) mostOutputs)
@@ -76,14 +75,11 @@ module _ (s : State) (held : T (not (isNothing (stageOf s)))) where
   pub some-outputs : 1 ≤ s .m
   some-outputs = leb→le 1 (s .m) (and-l (leb 1 (s .m)) (leb (s .m) mostOutputs) in-range)
 
-  pub few-outputs : s .m ≤ 16
-  few-outputs = leb→le (s .m) 16 (and-r (leb 1 (s .m)) (leb (s .m) 16) in-range)
+  pub few-outputs : s .m ≤ mostOutputs
+  few-outputs = leb→le (s .m) mostOutputs (and-r (leb 1 (s .m)) (leb (s .m) mostOutputs) in-range)
 
   pub ordered : T (isOrder (s .n) (orderOf s))
   ordered = heading-order (s .n) (s .m) (orderOf s) held-heading
 
-  pub inputs-fit : s .n ≤ length (s .order)
-  inputs-fit = omega (arith, order-length (s .n) (orderOf s) ordered, length-take (s .n) (s .order))
-
-  pub few-bits : s .m * 2 ^ s .n ≤ 16384
+  pub few-bits : s .m * 2 ^ s .n ≤ mostBits
   few-bits = stream-small (s .n) (s .m) few-inputs few-outputs

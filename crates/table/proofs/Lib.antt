@@ -1,7 +1,5 @@
 pub mod Accepted
 pub mod Answers
-pub mod Below
-pub mod BlockTests
 pub mod CaredBits
 pub mod Exchanged
 pub mod Filled
@@ -11,9 +9,6 @@ pub mod LoadCall
 pub mod Loaded
 pub mod Orders
 pub mod Over
-pub mod VariableLevels
-pub mod Stream
-pub mod Sums
+pub mod Reader
 pub mod Swapped
-pub mod Tail
-pub mod Words
+pub mod VariableLevels

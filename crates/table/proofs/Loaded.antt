@@ -3,7 +3,7 @@
 use mathlib.Core.Path.{_≡_, sym, ap, _∙_, subst}
 use mathlib.Core.Bool.{Bool, true, false, _&&_}
 use mathlib.Core.List.{List}
-use Prim.Native.Nat.{ℕ, _+_, _*_, _/_, _%_, _^_, _≤_, _<_}
+use Prim.Native.Nat.{ℕ, _+_, _*_, _-_, _/_, _%_, _^_, _≤_, _<_}
 use native.Mathlib.Nat.{zero-div}
 use native.Mathlib.Omega.{arith}
 use borrow.Author.Tests.{lt-ltb, le-ltb, le-leb, lt-leb, ltb-true, ltb-false}
@@ -13,32 +13,35 @@ use Rattle.diagram.specs.Order.{isOrder}
 use Rattle.diagram.proofs.Bools.{split, of-T, and-T}
 use Rattle.table.specs.declared.Stage.the-variants.{Table as AtTable}
 use Rattle.table.specs.Answer.{done}
-use Rattle.table.specs.Stream.{streamBit}
+use Rattle.block.specs.Bits.{streamBit}
 use Rattle.table.specs.State.{goodHeading, orderOf, stageOf, isNothing}
-use Rattle.table.specs.File.{byte, fileInputs, fileOutputs, fileOrder, streamBits, streamBlocks, contentBit, firstBit, streamByte, fileAnswer}
+use Rattle.block.specs.Block.{contentSize, contentBits, byte, contentBit}
+use Rattle.table.specs.File.{fileInputs, fileOutputs, fileOrder, streamBits, streamBlocks, firstBit, streamByte, fileAnswer}
 use Rattle.table.specs.Calls.{planeSize, over, loadedState, loadedPlane}
+use Rattle.table.specs.inner.Sizes.{mostBits}
 use Rattle.table.proofs.Over.{getD-over}
 use Rattle.table.proofs.Heading.{first-listed}
-use Rattle.table.proofs.Tail.{spare-bit}
+use Rattle.block.proofs.UnusedBits.{unused-bit}
 use Rattle.table.proofs.Answers.{stream-small}
-use Rattle.table.proofs.Accepted.{Accepted, accepted}
+use Rattle.table.proofs.Accepted.{AcceptedHeading, accepted}
 use Rattle.table.proofs.Held.{stage-good}
 
 -- the state
 
-pub heading-kept : (n m : ℕ) (order : List ℕ) → n ≤ 10 → 1 ≤ m → m ≤ 16 → T (isOrder n order) → T (goodHeading n m order)
+pub heading-kept : (n m : ℕ) (order : List ℕ) → n ≤ mostVariables → 1 ≤ m → m ≤ mostOutputs → T (isOrder n order)
+    → T (goodHeading n m order)
 unfolding goodHeading
 heading-kept n m order h g k o =
-    and-T (leb n 10) (leb 1 m && leb m 16 && isOrder n order) (le→leb n 10 h)
-    (and-T (leb 1 m && leb m 16) (isOrder n order) (and-T (leb 1 m) (leb m 16) (le→leb 1 m g) (le→leb m 16 k)) o)
+    and-T (leb n mostVariables) (leb 1 m && leb m mostOutputs && isOrder n order) (le→leb n mostVariables h)
+    (and-T (leb 1 m && leb m mostOutputs) (isOrder n order) (and-T (leb 1 m) (leb m mostOutputs) (le→leb 1 m g) (le→leb m mostOutputs k)) o)
 
 module _ (file : List ℕ) (t : T (done (fileAnswer file))) where
   pub loaded-order : orderOf (loadedState file) ≡ fileOrder file
-  loaded-order = first-listed (λ p. byte file 0 (6 + p)) (fileInputs file) 10 (accepted file t .inputs)
+  loaded-order = first-listed (λ p. byte file 0 (6 + p)) (fileInputs file) mostVariables (accepted file t .heading .inputs)
 
   pub loaded-heading : T (goodHeading (fileInputs file) (fileOutputs file) (orderOf (loadedState file)))
   loaded-heading =
-      let a : Accepted file = accepted file t in
+      let a : AcceptedHeading file = accepted file t .heading in
       heading-kept (fileInputs file) (fileOutputs file) (orderOf (loadedState file)) (a .inputs) (a .one-output) (a .outputs)
       (subst (λ (l : List ℕ). T (isOrder (fileInputs file) l)) (sym loaded-order) (a .order))
 
@@ -50,34 +53,34 @@ module _ (file : List ℕ) (t : T (done (fileAnswer file))) where
 
 -- the planes
 
-byte-below : (i : ℕ) → i < 16384 → i / 8 < planeSize
+byte-below : (i : ℕ) → i < mostBits → i / 8 < planeSize
 unfolding planeSize
 byte-below i h = omega arith
 
 -- bit i of a plane written over is bit i mod 8 of byte i / 8
-plane-bit : (f : ℕ → ℕ) (plane : List ℕ) (i : ℕ) → i < 16384 → streamBit (over f planeSize plane) i ≡ eqb (f (i / 8) / 2 ^ (i % 8) % 2) 1
+plane-bit : (f : ℕ → ℕ) (plane : List ℕ) (i : ℕ) → i < mostBits → streamBit (over f planeSize plane) i ≡ eqb (f (i / 8) / 2 ^ (i % 8) % 2) 1
 unfolding streamBit
 plane-bit f plane i h = ap (λ (x : ℕ). eqb (x / 2 ^ (i % 8) % 2) 1) (getD-over f planeSize plane (i / 8) 0 (byte-below i h))
 
--- bit i of the stream stands in the block i / 4048, there at bit i mod 4048
-content-place : (i : ℕ) → (i % 4048 / 8 ≡ i / 8 % 506) × (i % 4048 % 8 ≡ i % 8) × (i / 8 / 506 ≡ i / 4048)
-content-place i = (omega arith, omega arith, omega arith)
+-- bit i of the stream stands in the block i / contentBits, there at bit i mod contentBits
+content-at : (i : ℕ) → (i % contentBits / 8 ≡ i / 8 % contentSize) × (i % contentBits % 8 ≡ i % 8) × (i / 8 / contentSize ≡ i / contentBits)
+content-at i = (omega arith, omega arith, omega arith)
 
-module _ (file : List ℕ) (first blocks : ℕ) (plane : List ℕ) (i : ℕ) (h : i < 16384) where
-  bit-inside : i < 4048 * blocks
-      → streamBit (over (streamByte file first blocks) planeSize plane) i ≡ contentBit file (first + i / 4048) (i % 4048)
+module _ (file : List ℕ) (first blocks : ℕ) (plane : List ℕ) (i : ℕ) (h : i < mostBits) where
+  bit-inside : i < contentBits * blocks
+      → streamBit (over (streamByte file first blocks) planeSize plane) i ≡ contentBit file (first + i / contentBits) (i % contentBits)
   unfolding streamByte contentBit
   bit-inside l =
-      let p = content-place i in
-      let e : i % 4048 / 8 ≡ i / 8 % 506 = p .0 in
-      let d : i % 4048 % 8 ≡ i % 8 = p .1 in
-      let o : i / 8 / 506 ≡ i / 4048 = p .2 in
-      plane-bit (streamByte file first blocks) plane i h ∙ rw (lt-ltb (i / 8) (506 * blocks) (omega arith), e, d, o)
+      let p = content-at i in
+      let e : i % contentBits / 8 ≡ i / 8 % contentSize = p .0 in
+      let d : i % contentBits % 8 ≡ i % 8 = p .1 in
+      let o : i / 8 / contentSize ≡ i / contentBits = p .2 in
+      plane-bit (streamByte file first blocks) plane i h ∙ rw (lt-ltb (i / 8) (contentSize * blocks) (omega arith), e, d, o)
 
-  bit-outside : 4048 * blocks ≤ i → streamBit (over (streamByte file first blocks) planeSize plane) i ≡ false
+  bit-outside : contentBits * blocks ≤ i → streamBit (over (streamByte file first blocks) planeSize plane) i ≡ false
   unfolding streamByte
   bit-outside l =
-      plane-bit (streamByte file first blocks) plane i h ∙ rw (le-ltb (i / 8) (506 * blocks) (omega arith), zero-div (2 ^ (i % 8)))
+      plane-bit (streamByte file first blocks) plane i h ∙ rw (le-ltb (i / 8) (contentSize * blocks) (omega arith), zero-div (2 ^ (i % 8)))
 
 -- the block that a stream begins: values, or care
 abbrev begins : Bool → ℕ → ℕ
@@ -88,55 +91,55 @@ begins-range : (c : Bool) (blocks j : ℕ) → j < blocks → (1 ≤ begins c bl
 begins-range true blocks j h = omega arith
 begins-range false blocks j h = omega arith
 
-begins-bit : (c : Bool) (blocks j : ℕ) → j < blocks → firstBit blocks (begins c blocks + j) ≡ 4048 * j
+begins-bit : (c : Bool) (blocks j : ℕ) → j < blocks → firstBit blocks (begins c blocks + j) ≡ contentBits * j
 begins-bit true blocks j h = rw (lt-leb (1 + blocks + j) blocks (omega arith)) (omega arith)
 begins-bit false blocks j h = rw (le-leb (1 + j) blocks (omega arith)) (omega arith)
 
-enough-blocks : (n m : ℕ) → m * 2 ^ n ≤ 4048 * streamBlocks n m
+enough-blocks : (n m : ℕ) → m * 2 ^ n ≤ contentBits * streamBlocks n m
 unfolding streamBlocks
 enough-blocks n m = omega arith
 
 module _ (file : List ℕ) (t : T (done (fileAnswer file))) (c : Bool) (plane : List ℕ) (i : ℕ) where
   stream-bit : i < streamBits (fileInputs file) (fileOutputs file)
       → streamBit (loadedPlane file (begins c (streamBlocks (fileInputs file) (fileOutputs file))) plane) i
-      ≡ contentBit file (begins c (streamBlocks (fileInputs file) (fileOutputs file)) + i / 4048) (i % 4048)
+      ≡ contentBit file (begins c (streamBlocks (fileInputs file) (fileOutputs file)) + i / contentBits) (i % contentBits)
   stream-bit h =
       let n : ℕ = fileInputs file in
       let m : ℕ = fileOutputs file in
-      let a : Accepted file = accepted file t in
-      let l : m * 2 ^ n ≤ 16384 = stream-small n m (a .inputs) (a .outputs) in
+      let a : AcceptedHeading file = accepted file t .heading in
+      let l : m * 2 ^ n ≤ mostBits = stream-small n m (a .inputs) (a .outputs) in
       bit-inside file (begins c (streamBlocks n m)) (streamBlocks n m) plane i (omega arith) (omega (arith, enough-blocks n m))
 
   -- a bit past the stream's last stands in the stream's last block, which has a good tail, or past its blocks
-  stream-end : streamBits (fileInputs file) (fileOutputs file) ≤ i → i < 16384
+  stream-end : streamBits (fileInputs file) (fileOutputs file) ≤ i → i < mostBits
       → streamBit (loadedPlane file (begins c (streamBlocks (fileInputs file) (fileOutputs file))) plane) i ≡ false
   stream-end l h =
       let b : ℕ = streamBlocks (fileInputs file) (fileOutputs file) in
-      let k : ℕ = begins c b + i / 4048 in
-      split (ltb i (4048 * b))
-      (λ e. let g : i < 4048 * b = ltb-true i (4048 * b) e in
-      let j : i / 4048 < b = omega arith in
-      let r = begins-range c b (i / 4048) j in
+      let k : ℕ = begins c b + i / contentBits in
+      split (ltb i (contentBits * b))
+      (λ e. let g : i < contentBits * b = ltb-true i (contentBits * b) e in
+      let j : i / contentBits < b = omega arith in
+      let r = begins-range c b (i / contentBits) j in
       bit-inside file (begins c b) b plane i h g
-      ∙ spare-bit (streamBits (fileInputs file) (fileOutputs file)) file k (firstBit b k) (accepted file t .blocks k (r .0) (r .1) .tail)
-      (i % 4048) (omega arith) (omega (arith, begins-bit c b (i / 4048) j)))
-      (λ e. bit-outside file (begins c b) b plane i h (ltb-false i (4048 * b) e))
+      ∙ unused-bit file k (streamBits (fileInputs file) (fileOutputs file) - firstBit b k) (accepted file t .blocks k (r .0) (r .1) .tail)
+      (i % contentBits) (omega arith) (omega (arith, begins-bit c b (i / contentBits) j)))
+      (λ e. bit-outside file (begins c b) b plane i h (ltb-false i (contentBits * b) e))
 
 -- an accepted file's streams: values from block 1 on, care from the block after those on; and zeros past their last bits
 
 module _ (file : List ℕ) (t : T (done (fileAnswer file))) (plane : List ℕ) (i : ℕ) where
   pub loaded-value : i < streamBits (fileInputs file) (fileOutputs file)
-      → streamBit (loadedPlane file 1 plane) i ≡ contentBit file (1 + i / 4048) (i % 4048)
+      → streamBit (loadedPlane file 1 plane) i ≡ contentBit file (1 + i / contentBits) (i % contentBits)
   loaded-value = stream-bit file t false plane i
 
   pub loaded-care : i < streamBits (fileInputs file) (fileOutputs file)
       → streamBit (loadedPlane file (1 + streamBlocks (fileInputs file) (fileOutputs file)) plane) i
-      ≡ contentBit file (1 + streamBlocks (fileInputs file) (fileOutputs file) + i / 4048) (i % 4048)
+      ≡ contentBit file (1 + streamBlocks (fileInputs file) (fileOutputs file) + i / contentBits) (i % contentBits)
   loaded-care = stream-bit file t true plane i
 
-  pub loaded-value-end : streamBits (fileInputs file) (fileOutputs file) ≤ i → i < 16384 → streamBit (loadedPlane file 1 plane) i ≡ false
+  pub loaded-value-end : streamBits (fileInputs file) (fileOutputs file) ≤ i → i < mostBits → streamBit (loadedPlane file 1 plane) i ≡ false
   loaded-value-end = stream-end file t false plane i
 
-  pub loaded-care-end : streamBits (fileInputs file) (fileOutputs file) ≤ i → i < 16384
+  pub loaded-care-end : streamBits (fileInputs file) (fileOutputs file) ≤ i → i < mostBits
       → streamBit (loadedPlane file (1 + streamBlocks (fileInputs file) (fileOutputs file)) plane) i ≡ false
   loaded-care-end = stream-end file t true plane i

@@ -1,6 +1,6 @@
 -- A list written over from its front: f 0 to f (k - 1), and what stood from element k on.
 -- Assumes nothing.
-use mathlib.Core.Path.{_≡_, sym, ap, ap₂, _∙_}
+use mathlib.Core.Path.{_≡_, refl, sym, ap, ap₂, _∙_}
 use mathlib.Core.List.{List, [], _∷_, _++_, map, map-append}
 use Prim.Native.Nat.{ℕ, suc, _+_, _≤_, _<_}
 use native.Mathlib.Numerals.{add-one}
@@ -9,7 +9,7 @@ use lib.ListN.{length, getD, drop, set, length-append, length-drop, List·getD-a
 use lib.Seq.{drop-cons, append-snoc, set-at}
 use Rattle.diagram.specs.Lists.{upTo}
 use Rattle.diagram.proofs.UpTo.{length-map-upTo, getD-map-upTo}
-use Rattle.table.specs.Calls.{over, planeSize}
+use Rattle.table.specs.Calls.{planeSize, over}
 
 module _ {A : Type 0} (f : ℕ → A) where
   -- one more element written
@@ -30,7 +30,7 @@ module _ {A : Type 0} (f : ℕ → A) where
   pub getD-over : (k : ℕ) (l : List A) (i : ℕ) (d : A) → i < k → getD (over f k l) i d ≡ f i
   getD-over k l i d h = List·getD-append (map f (upTo k)) (drop k l) d i (omega (arith, length-map-upTo f k)) ∙ getD-map-upTo f k i d h
 
-  -- a whole plane
-  pub over-plane : (l : List A) (i : ℕ) → i ≡ 2048 → over f i l ≡ over f planeSize l
-  unfolding planeSize
-  over-plane l i e = ap (λ (k : ℕ). over f k l) e
+-- the bytes of a whole plane
+pub plane-size : planeSize ≡ 2048
+unfolding planeSize
+plane-size = refl

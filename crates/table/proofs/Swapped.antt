@@ -23,9 +23,9 @@ module _ (s : State) (p : ℕ) where
   unfolding swapAnswer swapOutcome
   swap-no-table e = rw e
 
-  pub swap-no-place : not (isNothing (stageOf s)) ≡ true → s .n ≤ suc p → swapOutcome s p ≡ record { answer = NoSuch; state = s }
+  pub swap-no-level : not (isNothing (stageOf s)) ≡ true → s .n ≤ suc p → swapOutcome s p ≡ record { answer = NoSuch; state = s }
   unfolding swapAnswer swapOutcome
-  swap-no-place e h = rw (e, le-ltb (suc p) (s .n) h)
+  swap-no-level e h = rw (e, le-ltb (suc p) (s .n) h)
 
   pub swap-done : not (isNothing (stageOf s)) ≡ true → suc p < s .n → (order : List ℕ) → order ≡ exchanged p (s .order)
       → swapOutcome s p ≡ record { answer = Done 0; state = reorderedState s order }

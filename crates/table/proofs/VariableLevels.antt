@@ -10,6 +10,7 @@ use lib.Dec.{eqb}
 use lib.ListN.{length, getD, take}
 use lib.Seq.{take-all}
 use Rattle.diagram.specs.Lists.{index}
+use Rattle.diagram.specs.Bound.{mostVariables}
 use Rattle.table.proofs.Orders.{rest, rest-cons, rest-none}
 
 index-now : (v : ℕ) (l : List ℕ) (n i : ℕ) → n ≤ length l → i < n → v ≡ getD l i 0 → index eqb v (rest l n i) ≡ 0
@@ -24,15 +25,16 @@ index-none v l n i k h = rw (rest-none l n i k h)
 
 -- the entries before level i passed over
 module _ (v : ℕ) (l : List ℕ) (n i : ℕ) (k : n ≤ length l) (p : index eqb v (take n l) ≡ i + index eqb v (rest l n i)) where
-  pub place-here : i < n → v ≡ getD l i 0 → i ≡ index eqb v (take n l)
-  place-here h e = omega (arith, index-now v l n i k h e)
+  pub level-here : i < n → v ≡ getD l i 0 → i ≡ index eqb v (take n l)
+  level-here h e = omega (arith, index-now v l n i k h e)
 
-  pub place-later : i < n → (v ≡ getD l i 0 → ⊥) → index eqb v (take n l) ≡ i + 1 + index eqb v (rest l n (i + 1))
-  place-later h e = omega (arith, index-later v l n i k h e)
+  pub level-later : i < n → (v ≡ getD l i 0 → ⊥) → index eqb v (take n l) ≡ i + 1 + index eqb v (rest l n (i + 1))
+  level-later h e = omega (arith, index-later v l n i k h e)
 
-  pub place-none : n ≤ i → i ≡ index eqb v (take n l)
-  place-none h = omega (arith, index-none v l n i k h)
+  pub level-none : n ≤ i → i ≡ index eqb v (take n l)
+  level-none h = omega (arith, index-none v l n i k h)
 
--- of ten entries no more are used than there are
-pub place-past : (v n : ℕ) (l : List ℕ) (r : ℕ) → 10 < n → length l ≤ 10 → r ≡ index eqb v (take 10 l) → r ≡ index eqb v (take n l)
-place-past v n l r h e p = p ∙ ap (index eqb v) (take-all 10 l e ∙ sym (take-all n l (omega (arith, e, h))))
+-- of an array of entries no more are used than there are
+pub level-past : (v n : ℕ) (l : List ℕ) (r : ℕ) → mostVariables < n → length l ≤ mostVariables
+    → r ≡ index eqb v (take mostVariables l) → r ≡ index eqb v (take n l)
+level-past v n l r h e p = p ∙ ap (index eqb v) (take-all mostVariables l e ∙ sym (take-all n l (omega (arith, e, h))))

@@ -4,7 +4,8 @@ use mathlib.Core.Bool.{Bool, cond}
 use Prim.Native.Nat.{ℕ}
 use lib.Dec.{eqb}
 use Rattle.table.specs.declared.Answer.{Answer}
-use Rattle.table.specs.declared.Answer.the-variants.{Done, BadLength, BadCheck, BadKind, BadInputs, BadOutputs, BadOrder, BadContent, NoRow, NoSuch, ShortBuffer, NoTable, NoNetwork, TooSmall, BadCells}
+use Rattle.table.specs.declared.Answer.the-variants.{Done, BadLength, BadCheck, BadKind, BadInputs, BadOutputs, BadOrder}
+use Rattle.table.specs.declared.Answer.the-variants.{BadContent, NoRow, NoSuch, ShortBuffer, NoTable, NoNetwork, TooSmall, BadCells}
 
 abbrev pub number : Answer → ℕ
 number (Done v) = 0
@@ -48,3 +49,7 @@ unless ok refusal rest = cond ok rest refusal
 -- whether an answer is a success
 abbrev pub done : Answer → Bool
 done a = eqb (number a) 0
+
+-- a refusal as it is, else what follows the success
+abbrev pub unlessRefused : Answer → Answer → Answer
+unlessRefused first rest = cond (done first) rest first

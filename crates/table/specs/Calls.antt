@@ -6,6 +6,8 @@ use Prim.Native.Nat.{ℕ, suc, _+_}
 use lib.Dec.{ltb, leb}
 use lib.ListN.{length, drop}
 use Rattle.diagram.specs.Lists.{upTo}
+use Rattle.diagram.specs.Bound.{mostVariables}
+use Rattle.block.specs.Block.{byte}
 use Rattle.table.specs.declared.State.{State}
 use Rattle.table.specs.declared.Outcome.{Outcome}
 use Rattle.table.specs.declared.Answer.{Answer}
@@ -14,7 +16,7 @@ use Rattle.table.specs.declared.Stage.the-variants.{Table as AtTable}
 use Rattle.table.specs.Answer.{unless, done}
 use Rattle.table.specs.Stream.{caredBits}
 use Rattle.table.specs.State.{stageOf, isNothing, exchanged, reorderedState}
-use Rattle.table.specs.File.{byte, fileInputs, fileOutputs, streamBlocks, streamByte, fileAnswer}
+use Rattle.table.specs.File.{fileInputs, fileOutputs, streamBlocks, streamByte, fileAnswer}
 
 -- the bytes of values or care that a call uses
 unfoldable pub planeSize : ℕ
@@ -35,7 +37,7 @@ loadedState file =
     record {
       n = fileInputs file;
       m = fileOutputs file;
-      order = map (λ p. cond (ltb p (fileInputs file)) (byte file 0 (6 + p)) 0) (upTo 10);
+      order = map (λ p. cond (ltb p (fileInputs file)) (byte file 0 (6 + p)) 0) (upTo mostVariables);
       count = 0;
       stage = AtTable;
     }

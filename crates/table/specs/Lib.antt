@@ -3,3 +3,4 @@ pub mod Stream
 pub mod State
 pub mod File
 pub mod Calls
+pub mod inner

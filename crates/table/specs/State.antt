@@ -13,7 +13,7 @@ use Rattle.table.specs.declared.Stage.the-variants.{Nothing, Table as At
 
 -- before any load
 abbrev pub unloadedState : State
-unloadedState = record { n = 0; m = 0; order = replicate 10 0; count = 0; stage = Nothing }
+unloadedState = record { n = 0; m = 0; order = replicate mostVariables 0; count = 0; stage = Nothing }
 
 -- the heading's rules: n at most 10, m from 1 to 16, the order each input once
 unfoldable pub goodHeading : ℕ → ℕ → List ℕ → Bool
@@ -37,7 +37,7 @@ isNetwork Nothing = false
 isNetwork AtTable = false
 isNetwork Network = true
 
--- the order with places p and p + 1 exchanged
+-- the order with levels p and p + 1 exchanged
 abbrev pub exchanged : ℕ → List ℕ → List ℕ
 exchanged p order = set (set order p (getD order (suc p) 0)) (suc p) (getD order p 0)
 

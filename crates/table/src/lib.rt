@@ -1,7 +1,6 @@
 // The table file, the state that every call takes and gives back, and what a call answers (document 01, sections 1, 2, 6 and 7).
-pub mod bits;
-mod block;
 pub mod cared;
+mod file;
 pub mod load;
 pub mod order;
 pub mod swap;
@@ -27,7 +26,7 @@ pub struct State {
     pub stage: Stage,
 }
 
-// What a call answers; specs/Answer.antt has each one's number.
+// What a call answers; specs/Answer.antt has each one's number. `NoSuch` is 9: no such input, or p + 1 not below n.
 pub enum Answer {
     Done(usize),
     BadLength,

@@ -1,19 +1,20 @@
 // Orders of the variables: the variable at each level, the top level first (document 01, sections 1 and 2).
-use crate::block::block_byte;
+use block::block::block_byte;
 use diagram::VARIABLES;
 ghost use mathlib.Core.Path.{_≡_};
 ghost use mathlib.Core.Bool.{cond};
 ghost use mathlib.Core.List.{map};
-ghost use Prim.Native.Nat.{ℕ, suc, _+_, _≤_, _<_};
+ghost use Prim.Native.Nat.{suc, _+_, _≤_, _<_};
 ghost use lib.Dec.{eqb, ltb};
 ghost use lib.ListN.{getD, take, drop};
 ghost use Rattle.diagram.specs.Lists.{has, index, upTo};
+ghost use Rattle.diagram.specs.Bound.{mostVariables};
 ghost use Rattle.diagram.specs.Order.{isOrder};
-ghost use Rattle.table.specs.File.{byte};
+ghost use Rattle.block.specs.Block.{byte};
 
 // Whether the variable at level i stands again at a later level below n.
 fn repeated(order: [usize; VARIABLES], n: usize, i: usize) -> bool
-    requires { ⌜ (n ≤ 10) × (i < n) ⌝ }
+    requires { ⌜ (n ≤ mostVariables) × (i < n) ⌝ }
     ensures { λ r. ⌜ r ≡ has eqb (getD order i 0) (drop (suc i) (take n order)) ⌝ }
 {
     let v = order[i];
@@ -29,7 +30,7 @@ fn repeated(order: [usize; VARIABLES], n: usize, i: usize) -> bool
 
 // Whether the first n entries have each of the n variables once.
 pub(crate) fn is_order(order: [usize; VARIABLES], n: usize) -> bool
-    requires { ⌜ n ≤ 10 ⌝ }
+    requires { ⌜ n ≤ mostVariables ⌝ }
     ensures { λ r. ⌜ r ≡ isOrder n (take n order) ⌝ }
 {
     let mut i: usize = 0;
@@ -47,8 +48,8 @@ pub(crate) fn is_order(order: [usize; VARIABLES], n: usize) -> bool
 
 // The heading's order, and zeros past n.
 pub(crate) fn read_order(file: &[u8], n: usize) -> [usize; VARIABLES]
-    requires { ⌜ n ≤ 10 ⌝ }
-    ensures { λ r. ⌜ r ≡ map (λ p. cond (ltb p n) (byte (now (file .entry)) 0 (6 + p)) 0) (upTo 10) ⌝ }
+    requires { ⌜ n ≤ mostVariables ⌝ }
+    ensures { λ r. ⌜ r ≡ map (λ p. cond (ltb p n) (byte (now (file .entry)) 0 (6 + p)) 0) (upTo mostVariables) ⌝ }
 {
     let mut order = [0usize; VARIABLES];
     let mut p: usize = 0;
@@ -61,7 +62,7 @@ pub(crate) fn read_order(file: &[u8], n: usize) -> [usize; VARIABLES]
 
 // The level of v among the first n, or n where it has none.
 fn level_among(order: [usize; VARIABLES], n: usize, v: usize) -> usize
-    requires { ⌜ n ≤ 10 ⌝ }
+    requires { ⌜ n ≤ mostVariables ⌝ }
     ensures { λ r. ⌜ r ≡ index eqb v (take n order) ⌝ }
 {
     let mut i: usize = 0;

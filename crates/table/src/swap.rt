@@ -1,4 +1,4 @@
-// The exchange of two neighbouring places of the order (document 01, section 2).
+// The exchange of two neighbouring levels of the order (document 01, section 2).
 use crate::Answer;
 use crate::Outcome;
 use crate::Stage;
@@ -6,13 +6,14 @@ use crate::State;
 use crate::valid::holds_table;
 use diagram::VARIABLES;
 ghost use mathlib.Core.Path.{_≡_};
-ghost use Prim.Native.Nat.{_<_};
+ghost use Prim.Native.Nat.{suc, _<_};
+ghost use Rattle.diagram.specs.Bound.{mostVariables};
 ghost use Rattle.table.specs.State.{exchanged};
 ghost use Rattle.table.specs.Calls.{swapOutcome};
 
-// The order with places p and p + 1 exchanged.
+// The order with levels p and p + 1 exchanged.
 fn exchange(order: [usize; VARIABLES], p: usize) -> [usize; VARIABLES]
-    requires { ⌜ p < 9 ⌝ }
+    requires { ⌜ suc p < mostVariables ⌝ }
     ensures { λ r. ⌜ r ≡ exchanged p order ⌝ }
 {
     let mut after = order;
@@ -23,7 +24,7 @@ fn exchange(order: [usize; VARIABLES], p: usize) -> [usize; VARIABLES]
     after
 }
 
-// Exchanges places p and p + 1. Refuses with 21, then 9.
+// Exchanges levels p and p + 1. Refuses with 21, then 9.
 pub fn swap(state: State, p: usize) -> Outcome
     ensures { λ r. ⌜ r ≡ swapOutcome state p ⌝ }
 {

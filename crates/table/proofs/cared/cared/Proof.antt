@@ -1,4 +1,4 @@
--- `table::cared::cared` meets its contract, a law for each way out; a table that is held has at most 16,384 bits. Assumes nothing.
+-- `table::cared::cared` meets its contract, a law for each way out; a table that is held has few bits. Assumes nothing.
 use borrow.Author.Needs.{needs}
 use mathlib.Core.Path.{sym, _∙_}
 use native.Mathlib.Omega.{arith}
@@ -6,6 +6,7 @@ use borrow.Author.Tests.{not-true, not-false}
 use denote.Ref.{now}
 use Rattle.diagram.proofs.Bools.{to-T}
 use Rattle.table.proofs.Held.{few-inputs, few-bits}
+use Rattle.table.proofs.Over.{plane-size}
 use Rattle.table.proofs.CaredBits.{bits-fit, cared-short, cared-no-table, cared-done}
 use Rattle.table.proofs.cared.cared.Statement.{statement}
 use Rattle.table.proofs.cared.cared.Tie as tie
@@ -13,7 +14,7 @@ use Rattle.table.proofs.cared.cared.Tie as tie
 returns : tie.Need-returns
 returns c =
     let a = c .before .before .args in
-    sym (cared-short (a .state) (now (a .care)) (search needs))
+    sym (cared-short (a .state) (now (a .care)) (omega (arith, plane-size)))
 
 holds-table-requires : tie.Need-holds-table-requires
 holds-table-requires c κs = search needs
@@ -22,7 +23,7 @@ returns-2 : tie.Need-returns-2
 returns-2 c =
     let a = c .before .before .before .before .args in
     let r = c .before .holds-table in
-    sym (cared-no-table (a .state) (now (a .care)) (search needs) (sym (r .ensures) ∙ not-true (r .result) (c .if2 .taken)))
+    sym (cared-no-table (a .state) (now (a .care)) (omega (arith, plane-size)) (sym (r .ensures) ∙ not-true (r .result) (c .if2 .taken)))
 
 shl-cared-bits : tie.Need-shl-cared-bits
 shl-cared-bits c =
@@ -43,7 +44,8 @@ returns-3 c =
     let a = c .before .before .before .before .before .before .args in
     let r = c .before .before .before .holds-table in
     let e = sym (r .ensures) ∙ not-false (r .result) (c .before .before .if2 .left) in
-    sym (cared-done (a .state) (now (a .care)) (search needs) e (few-bits (a .state) (to-T e)) (c .cared-bits .result) (c .cared-bits .ensures))
+    sym (cared-done (a .state) (now (a .care)) (omega (arith, plane-size)) e (few-bits (a .state) (to-T e))
+    (c .cared-bits .result) (c .cared-bits .ensures))
 
 pub cared-spec : {M : Type 1} → statement M
 cared-spec =

@@ -4,10 +4,10 @@ use borrow.Author.Needs.{needs}
 use Prim.Native.Nat.{ℕ, _*_, _+_, _-_, _≤_, min}
 use mathlib.Core.Path.{_≡_, ap, ap₂, _∙_}
 use Rattle.diagram.specs.Lists.{digit}
-use Rattle.table.specs.Stream.{streamBit, sum}
+use Rattle.block.specs.Bits.{streamBit, sum}
 use native.Mathlib.Omega.{arith}
 use denote.Ref.{now}
-use Rattle.table.proofs.Sums.{sum-none, sum-part, sum-whole}
+use Rattle.block.proofs.Sums.{sum-none, sum-part, sum-whole}
 use Rattle.table.proofs.cared.cared_bits.Statement.{statement}
 use Rattle.table.proofs.cared.cared_bits.Tie as tie
 

@@ -7,12 +7,15 @@ use borrow.Author.Needs.{needs}
 use borrow.Author.Tests.{not-true, not-false}
 use denote.Ref.{now}
 use native.Mathlib.Omega.{arith}
+use Rattle.diagram.specs.Bound.{mostVariables, mostOutputs}
 use Rattle.diagram.proofs.Bools.{to-T}
 use Rattle.table.specs.declared.Answer.the-variants.{ShortBuffer}
 use Rattle.table.specs.Answer.{done}
 use Rattle.table.specs.File.{streamBlocks}
+use Rattle.table.specs.inner.Sizes.{mostBlocks}
 use Rattle.table.proofs.Accepted.{Accepted, accepted}
 use Rattle.table.proofs.Answers.{stream-small, shifted-out, few-blocks, blocks-for-is}
+use Rattle.table.proofs.Over.{plane-size}
 use Rattle.table.proofs.LoadCall.{short-values, short-care, long-planes, refused, loads}
 use Rattle.table.proofs.load.load.Statement.{statement}
 use Rattle.table.proofs.load.load.Tie as tie
@@ -27,11 +30,11 @@ good-file c =
     accepted (now (s .before .before .before .before .before .args .file))
     (to-T (ap done (sym (c .before .before .file-answer .ensures)) ∙ passed c))
 
-few-variables : (c : tie.After-block-byte) → c .block-byte .result ≤ 10
-few-variables c = omega (arith, good-file (c .before) .inputs, c .block-byte .ensures .0)
+few-variables : (c : tie.After-block-byte) → c .block-byte .result ≤ mostVariables
+few-variables c = omega (arith, good-file (c .before) .heading .inputs, c .block-byte .ensures .0)
 
-few-results : (c : tie.After-block-byte2) → c .block-byte2 .result ≤ 16
-few-results c = omega (arith, good-file (c .before .before) .outputs, c .block-byte2 .ensures .0)
+few-results : (c : tie.After-block-byte2) → c .block-byte2 .result ≤ mostOutputs
+few-results c = omega (arith, good-file (c .before .before) .heading .outputs, c .block-byte2 .ensures .0)
 
 the-blocks : (c : tie.After-blocks-for)
     → c .blocks-for .result ≡ streamBlocks (c .before .before .block-byte .result) (c .before .block-byte2 .result)
@@ -41,8 +44,8 @@ the-blocks c =
     blocks-for-is (n .block-byte .result) (m .block-byte2 .result) (c .blocks-for .result) (few-variables n) (few-results m)
     (c .blocks-for .ensures)
 
-at-most-five : (c : tie.After-blocks-for) → c .blocks-for .result ≤ 5
-at-most-five c =
+few-blocks-here : (c : tie.After-blocks-for) → c .blocks-for .result ≤ mostBlocks
+few-blocks-here c =
     let m = c .before in
     let n = m .before in
     omega (arith, the-blocks c, few-blocks (n .block-byte .result) (m .block-byte2 .result) (few-variables n) (few-results m))
@@ -51,13 +54,13 @@ returns : tie.Need-returns
 returns c =
     let a = c .before .before .before .before .args in
     refused (now (a .file)) (now (a .values)) (now (a .care)) (a .state) ShortBuffer
-    (short-values (now (a .file)) (now (a .values)) (now (a .care)) (c .if1 .taken)) refl
+    (short-values (now (a .file)) (now (a .values)) (now (a .care)) (omega (arith, plane-size))) refl
 
 returns-2 : tie.Need-returns-2
 returns-2 c =
     let a = c .before .before .before .before .before .args in
     refused (now (a .file)) (now (a .values)) (now (a .care)) (a .state) ShortBuffer
-    (short-care (now (a .file)) (now (a .values)) (now (a .care)) (c .if2 .taken)) refl
+    (short-care (now (a .file)) (now (a .values)) (now (a .care)) (omega (arith, plane-size))) refl
 
 file-answer-requires : tie.Need-file-answer-requires
 file-answer-requires c κs = tt
@@ -71,7 +74,8 @@ returns-3 c =
     let s = c .before .before .before in
     let a = s .before .before .before .before .before .args in
     refused (now (a .file)) (now (a .values)) (now (a .care)) (a .state) (x .result)
-    (long-planes (now (a .file)) (now (a .values)) (now (a .care)) (s .before .if1 .left) (s .if2 .left) ∙ sym (x .ensures))
+    (long-planes (now (a .file)) (now (a .values)) (now (a .care)) (omega (arith, plane-size)) (omega (arith, plane-size))
+    ∙ sym (x .ensures))
     (sym (c .before .is-done .ensures) ∙ not-true _ (c .if3 .taken))
 
 block-byte-requires : tie.Need-block-byte-requires
@@ -98,17 +102,15 @@ read-order-requires c κs = few-variables (c .before .before)
 write-plane-requires : tie.Need-write-plane-requires
 write-plane-requires c κs =
     let b = c .before .before in
-    let p = b .before .before .before in
-    (omega arith, at-most-five b, p .before .before .before .before .if1 .left)
+    (omega arith, few-blocks-here b, omega (arith, plane-size))
 
 add-write-plane : tie.Need-add-write-plane
-add-write-plane c = omega (arith, at-most-five (c .before .before .before .before .before))
+add-write-plane c = omega (arith, few-blocks-here (c .before .before .before .before .before))
 
 write-plane-requires-2 : tie.Need-write-plane-requires-2
 write-plane-requires-2 c κs =
     let b = c .before .before .before .before .before .before in
-    let p = b .before .before .before in
-    (omega (arith, at-most-five b), at-most-five b, p .before .before .before .if2 .left)
+    (omega (arith, few-blocks-here b), few-blocks-here b, omega (arith, plane-size))
 
 same-length : tie.Need-same-length
 same-length c = search needs
@@ -128,7 +130,8 @@ returns-4 c =
     let s = p .before .before .before in
     let a = s .before .before .before .before .before .args in
     loads (now (a .file)) (now (a .values)) (now (a .care)) (a .state) (x .result)
-    (long-planes (now (a .file)) (now (a .values)) (now (a .care)) (s .before .if1 .left) (s .if2 .left) ∙ sym (x .ensures)) (passed p)
+    (long-planes (now (a .file)) (now (a .values)) (now (a .care)) (omega (arith, plane-size)) (omega (arith, plane-size))
+    ∙ sym (x .ensures)) (passed p)
     (n .block-byte .result) (m .block-byte2 .result) (b .blocks-for .result) (o .read-order .result)
     (v .write-plane .last .1 .1 .1 .0) (c .before .before .write-plane2 .last .1 .1 .1 .0)
     (n .block-byte .ensures .0) (m .block-byte2 .ensures .0) (the-blocks b) (o .read-order .ensures)

@@ -1,27 +1,27 @@
 -- `table::load::write_plane` meets its contract. The loop's invariant: the plane is written over as far as byte i.
 -- Assumes nothing.
 use mathlib.Core.Path.{_≡_, refl, ap, _∙_}
-use Prim.Native.Nat.{_-_, _≤_}
+use Prim.Native.Nat.{ℕ, _-_, _≤_}
 use denote.Ref.{now}
 use native.Mathlib.Omega.{arith}
 use lib.ListN.{length}
 use Rattle.table.specs.File.{streamByte}
-use Rattle.table.specs.Calls.{over}
-use Rattle.table.proofs.Over.{over-next, over-plane, length-over}
+use Rattle.table.specs.Calls.{planeSize, over}
+use Rattle.table.proofs.Over.{over-next, length-over, plane-size}
 use Rattle.table.proofs.load.write_plane.Statement.{statement}
 use Rattle.table.proofs.load.write_plane.Tie as tie
 
 abbrev Inv-loop : tie.InvT-loop
-Inv-loop file first blocks plane₀ i₀ plane i = (i ≤ 2048) × (plane ≡ over (streamByte file first blocks) i plane₀)
+Inv-loop file first blocks plane₀ i₀ plane i = (i ≤ planeSize) × (plane ≡ over (streamByte file first blocks) i plane₀)
 
 abbrev μ-loop : tie.MeasureT-loop
-μ-loop file first blocks plane₀ i₀ plane i = 2048 - i
+μ-loop file first blocks plane₀ i₀ plane i = planeSize - i
 
 loop-holds : tie.Need-loop-holds Inv-loop μ-loop
-loop-holds c = (omega arith, refl)
+loop-holds c = (omega (arith, plane-size), refl)
 
 stream-byte-requires : tie.Need-stream-byte-requires Inv-loop μ-loop
-stream-byte-requires c κs = omega arith
+stream-byte-requires c κs = omega (arith, plane-size)
 
 slice-write-plane : tie.Need-slice-write-plane Inv-loop μ-loop
 slice-write-plane c =
@@ -29,36 +29,39 @@ slice-write-plane c =
     let a = c .before .before .before .before .before .args in
     omega (
       arith,
+      plane-size,
       ap length (l .inv .1),
-      length-over (streamByte (now (a .file)) (a .first) (a .blocks)) (l .i) (now (a .plane)) (omega arith),
+      length-over (streamByte (now (a .file)) (a .first) (a .blocks)) (l .i) (now (a .plane)) (omega (arith, plane-size)),
     )
 
 add-i : tie.Need-add-i Inv-loop μ-loop
-add-i c = omega arith
+add-i c = omega (arith, plane-size)
 
 loop-less : tie.Need-loop-less Inv-loop μ-loop
-loop-less c = omega arith
+loop-less c = omega (arith, plane-size)
 
 loop-again : tie.Need-loop-again Inv-loop μ-loop
 loop-again c =
     let l = c .before .before .loop in
     let a = c .before .before .before .before .before .args in (
-      omega arith,
+      omega (arith, plane-size),
       over-next (streamByte (now (a .file)) (a .first) (a .blocks)) (now (a .plane)) (l .plane) (l .i) (c .stream-byte .result)
-          (omega arith) (l .inv .1) (c .stream-byte .ensures),
+          (omega (arith, plane-size)) (l .inv .1) (c .stream-byte .ensures),
     )
 
 same-length : tie.Need-same-length Inv-loop μ-loop
 same-length c =
     let l = c .before .loop in
     let a = c .before .before .before .before .args in
-    ap length (l .inv .1) ∙ length-over (streamByte (now (a .file)) (a .first) (a .blocks)) (l .i) (now (a .plane)) (omega arith)
+    ap length (l .inv .1)
+    ∙ length-over (streamByte (now (a .file)) (a .first) (a .blocks)) (l .i) (now (a .plane)) (omega (arith, plane-size))
 
 returns : tie.Need-returns Inv-loop μ-loop
 returns c =
     let l = c .before .loop in
     let a = c .before .before .before .before .args in
-    l .inv .1 ∙ over-plane (streamByte (now (a .file)) (a .first) (a .blocks)) (now (a .plane)) (l .i) (omega arith)
+    let e : l .i ≡ planeSize = omega (arith, plane-size) in
+    l .inv .1 ∙ ap (λ (k : ℕ). over (streamByte (now (a .file)) (a .first) (a .blocks)) k (now (a .plane))) e
 
 pub write-plane-spec : {M : Type 1} → statement M
 write-plane-spec =

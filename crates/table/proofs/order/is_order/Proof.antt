@@ -1,5 +1,5 @@
--- `table::order::is_order` meets its contract. The loop's invariant: the whole order is fine exactly if what is left of it from entry i on is.
--- Assumes nothing.
+-- `table::order::is_order` meets its contract. The loop's invariant: the whole order is fine exactly if what is left of it from
+-- entry i on is. Assumes nothing.
 use borrow.Author.Needs.{needs}
 use Prim.Native.Nat.{_≤_, _-_}
 use mathlib.Core.Path.{_≡_, refl, sym, _∙_}
@@ -26,7 +26,8 @@ returns : tie.Need-returns Inv-loop μ-loop
 returns c =
     let a = c .before .before .before .args in
     let l = c .before .before .loop in
-    sym (order-fine (a .n) (a .t1) (search needs) ∙ l .inv .1 ∙ fine-high (a .t1) (a .n) (l .i) (search needs) (search needs) (search needs))
+    sym (order-fine (a .n) (a .t1) (search needs) ∙ l .inv .1
+    ∙ fine-high (a .t1) (a .n) (l .i) (search needs) (search needs) (search needs))
 
 repeated-requires : tie.Need-repeated-requires Inv-loop μ-loop
 repeated-requires c κs = search needs

@@ -7,7 +7,7 @@ use lib.Dec.{eqb}
 use lib.ListN.{take}
 use Rattle.diagram.specs.Lists.{index}
 use Rattle.table.proofs.Orders.{rest}
-use Rattle.table.proofs.VariableLevels.{place-here, place-later, place-none}
+use Rattle.table.proofs.VariableLevels.{level-here, level-later, level-none}
 use Rattle.table.proofs.order.level_among.Statement.{statement}
 use Rattle.table.proofs.order.level_among.Tie as tie
 use Rattle.table.proofs.order.level_among.Reads as reads
@@ -32,7 +32,7 @@ returns : tie.Need-returns Inv-loop μ-loop
 returns c =
     let a = c .before .before .before .args in
     let l = c .before .before .loop in
-    place-here (a .v) (a .t1) (a .n) (l .i) (search needs) (l .inv .1) (search needs) (c .if1 .taken)
+    level-here (a .v) (a .t1) (a .n) (l .i) (search needs) (l .inv .1) (search needs) (c .if1 .taken)
 
 add-i : tie.Need-add-i Inv-loop μ-loop
 add-i c = search needs
@@ -44,13 +44,13 @@ loop-again : tie.Need-loop-again Inv-loop μ-loop
 loop-again c =
     let a = c .before .before .before .args in
     let l = c .before .before .loop in
-    (search needs, place-later (a .v) (a .t1) (a .n) (l .i) (search needs) (l .inv .1) (search needs) (c .if1 .left))
+    (search needs, level-later (a .v) (a .t1) (a .n) (l .i) (search needs) (l .inv .1) (search needs) (c .if1 .left))
 
 returns-2 : tie.Need-returns-2 Inv-loop μ-loop
 returns-2 c =
     let a = c .before .before .args in
     let l = c .before .loop in
-    place-none (a .v) (a .t1) (a .n) (l .i) (search needs) (l .inv .1) (search needs)
+    level-none (a .v) (a .t1) (a .n) (l .i) (search needs) (l .inv .1) (search needs)
 
 pub level-among-spec : {M : Type 1} → statement M
 level-among-spec =

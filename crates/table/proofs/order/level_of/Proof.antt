@@ -1,7 +1,7 @@
--- `table::order::level_of` meets its contract. An order has ten entries at most.
+-- `table::order::level_of` meets its contract. An order has no more entries than the most variables.
 -- Assumes nothing.
 use borrow.Author.Needs.{needs}
-use Rattle.table.proofs.VariableLevels.{place-past}
+use Rattle.table.proofs.VariableLevels.{level-past}
 use Rattle.table.proofs.order.level_of.Statement.{statement}
 use Rattle.table.proofs.order.level_of.Tie as tie
 
@@ -11,7 +11,7 @@ level-among-requires c κs = search needs
 returns : tie.Need-returns
 returns c =
     let a = c .before .before .args in
-    place-past (a .v) (a .n) (a .order) (c .level-among .result) (c .before .if1 .taken) (search needs) (c .level-among .ensures)
+    level-past (a .v) (a .n) (a .order) (c .level-among .result) (c .before .if1 .taken) (search needs) (c .level-among .ensures)
 
 level-among-requires-2 : tie.Need-level-among-requires-2
 level-among-requires-2 c κs = search needs

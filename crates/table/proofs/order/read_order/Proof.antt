@@ -5,13 +5,14 @@ use Prim.Native.Nat.{ℕ, _+_, _≤_, _-_}
 use mathlib.Core.Path.{_≡_, refl, ap, _∙_}
 use native.Mathlib.Omega.{arith}
 use denote.Ref.{now}
-use Rattle.table.specs.File.{byte}
+use Rattle.diagram.specs.Bound.{mostVariables}
+use Rattle.block.specs.Block.{byte}
 use Rattle.table.proofs.Filled.{filled, filled-more}
 use Rattle.table.proofs.order.read_order.Statement.{statement}
 use Rattle.table.proofs.order.read_order.Tie as tie
 
 abbrev Inv-loop : tie.InvT-loop
-Inv-loop file n order₀ p₀ order p = (p ≤ n) × (order ≡ filled (λ (q : ℕ). byte file 0 (6 + q)) 10 p)
+Inv-loop file n order₀ p₀ order p = (p ≤ n) × (order ≡ filled (λ (q : ℕ). byte file 0 (6 + q)) mostVariables p)
 
 abbrev μ-loop : tie.MeasureT-loop
 μ-loop file n order₀ p₀ order p = n - p
@@ -40,15 +41,18 @@ loop-less c = search needs
 loop-again : tie.Need-loop-again Inv-loop μ-loop
 loop-again c =
     let l = c .before .before .loop in
-    let f : ℕ → ℕ = λ q. byte (now (c .before .before .before .before .args .file)) 0 (6 + q) in
-    (search needs, filled-more f 10 (l .p) (search needs) (l .order) (c .block-byte .result) (l .inv .1) (c .block-byte .ensures .0))
+    let f : ℕ → ℕ = λ q. byte (now (c .before .before .before .before .args .file)) 0 (6 + q) in (
+      search needs,
+      filled-more f mostVariables (l .p) (search needs) (l .order)
+          (c .block-byte .result) (l .inv .1) (c .block-byte .ensures .0),
+    )
 
 returns : tie.Need-returns Inv-loop μ-loop
 returns c =
     let a = c .before .before .before .args in
     let l = c .before .loop in
     let e : l .p ≡ a .n = omega arith in
-    l .inv .1 ∙ ap (λ (p : ℕ). filled (λ (q : ℕ). byte (now (a .file)) 0 (6 + q)) 10 p) e
+    l .inv .1 ∙ ap (λ (p : ℕ). filled (λ (q : ℕ). byte (now (a .file)) 0 (6 + q)) mostVariables p) e
 
 pub read-order-spec : {M : Type 1} → statement M
 read-order-spec =

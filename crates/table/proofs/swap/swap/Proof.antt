@@ -5,7 +5,7 @@ use native.Mathlib.Omega.{arith}
 use borrow.Author.Tests.{not-true, not-false}
 use Rattle.diagram.proofs.Bools.{to-T}
 use Rattle.table.proofs.Held.{few-inputs}
-use Rattle.table.proofs.Swapped.{swap-no-table, swap-no-place, swap-done}
+use Rattle.table.proofs.Swapped.{swap-no-table, swap-no-level, swap-done}
 use Rattle.table.proofs.swap.swap.Statement.{statement}
 use Rattle.table.proofs.swap.swap.Tie as tie
 
@@ -22,7 +22,7 @@ returns-2 : tie.Need-returns-2
 returns-2 c =
     let a = c .before .before .before .args in
     let r = c .before .before .holds-table in
-    sym (swap-no-place (a .state) (a .p) (sym (r .ensures) ∙ not-false (r .result) (c .before .if1 .left)) (search needs))
+    sym (swap-no-level (a .state) (a .p) (sym (r .ensures) ∙ not-false (r .result) (c .before .if1 .left)) (search needs))
 
 sub-if3 : tie.Need-sub-if3
 sub-if3 c = search needs
@@ -31,7 +31,7 @@ returns-3 : tie.Need-returns-3
 returns-3 c =
     let a = c .before .before .before .before .args in
     let r = c .before .before .before .holds-table in
-    sym (swap-no-place (a .state) (a .p) (sym (r .ensures) ∙ not-false (r .result) (c .before .before .if1 .left)) (search needs))
+    sym (swap-no-level (a .state) (a .p) (sym (r .ensures) ∙ not-false (r .result) (c .before .before .if1 .left)) (search needs))
 
 exchange-requires : tie.Need-exchange-requires
 exchange-requires c κs =
@@ -44,7 +44,8 @@ returns-4 : tie.Need-returns-4
 returns-4 c =
     let a = c .before .before .before .before .before .before .args in
     let r = c .before .before .before .before .before .holds-table in
-    sym (swap-done (a .state) (a .p) (sym (r .ensures) ∙ not-false (r .result) (c .before .before .before .before .if1 .left)) (search needs)
+    sym (swap-done (a .state) (a .p)
+    (sym (r .ensures) ∙ not-false (r .result) (c .before .before .before .before .if1 .left)) (search needs)
     (c .exchange .result) (c .exchange .ensures))
 
 pub swap-spec : {M : Type 1} → statement M

@@ -27,7 +27,8 @@ is-order-requires c κs = search needs
 returns-4 : tie.Need-returns-4
 returns-4 c =
     let a = c .before .before .before .before .args in
-    c .is-order .ensures ∙ sym (good-order (a .n) (a .m) (take (a .n) (a .order)) (search needs) (c .before .before .if2 .left) (search needs))
+    c .is-order .ensures
+    ∙ sym (good-order (a .n) (a .m) (take (a .n) (a .order)) (search needs) (c .before .before .if2 .left) (search needs))
 
 pub good-heading-spec : {M : Type 1} → statement M
 good-heading-spec = tie.close (tie.spec returns returns-2 returns-3 is-order-requires returns-4)

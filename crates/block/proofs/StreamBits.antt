@@ -1,0 +1,19 @@
+-- Bits of a stream by shifts and masks.
+-- Assumes nothing.
+use mathlib.Core.Path.{_≡_, ap, _∙_}
+use mathlib.Core.List.{List}
+use Prim.Native.Nat.{ℕ, _/_, _%_, _^_, _<_}
+use lib.Dec.{eqb}
+use lib.Bits.{bitAnd, and-mask, mask-lt}
+use lib.ListN.{getD}
+use Rattle.block.specs.Bits.{streamBit}
+
+pub mask-below : (i : ℕ) → bitAnd i 7 < 8
+mask-below i = mask-lt i 3
+
+-- bit i is the lowest of byte i / 8 shifted down by i mod 8
+pub bit-shifted : (bytes : List ℕ) (i x : ℕ) → x ≡ getD bytes (i / 8) 0 → eqb (bitAnd (x / 2 ^ bitAnd i 7) 1) 1 ≡ streamBit bytes i
+unfolding streamBit
+bit-shifted bytes i x e =
+    ap (λ (k : ℕ). eqb (bitAnd (x / 2 ^ k) 1) 1) (and-mask i 3) ∙ ap (λ (y : ℕ). eqb y 1) (and-mask (x / 2 ^ (i % 8)) 1)
+    ∙ ap (λ (y : ℕ). eqb (y / 2 ^ (i % 8) % 2) 1) e
