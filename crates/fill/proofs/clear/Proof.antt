@@ -2,8 +2,8 @@
 use borrow.Author.Needs.{needs}
 use denote.Ref.{now}
 use mathlib.Core.Path.{refl}
-use Rattle.fill.proofs.Holding.{zero-start}
-use Rattle.fill.proofs.CallLaws.{cleared-short, cleared-zero}
+use Rattle.fill.proofs.Buffers.HeldParts.{zero-start}
+use Rattle.fill.proofs.Calls.Answers.{cleared-short, cleared-zero}
 use Rattle.fill.proofs.clear.Statement.{statement}
 use Rattle.fill.proofs.clear.Tie as tie
 

@@ -8,7 +8,7 @@ use native.Mathlib.Omega.{arith}
 use Rattle.diagram.proofs.Bools.{to-T}
 use Rattle.table.specs.declared.Answer.the-variants.{ShortBuffer, NoTable}
 use Rattle.table.specs.State.{stageOf, isNothing}
-use Rattle.fill.proofs.CallLaws.{short-values, short-care, short-work, no-table, links-filled, links-refused}
+use Rattle.fill.proofs.Calls.Answers.{short-values, short-care, short-work, no-table, links-filled, links-refused}
 use Rattle.fill.proofs.links.Statement.{statement}
 use Rattle.fill.proofs.links.Tie as tie
 

@@ -7,7 +7,7 @@ use Prim.Native.Nat.{_-_, _≤_, _+_, _*_}
 use native.Mathlib.Nat.{le-antisymm}
 use native.Mathlib.Omega.{arith}
 use lib.ListN.{length, set, getD}
-use Rattle.fill.proofs.Counting.{Counting, counting-first, counting-last, counting-room, counting-on}
+use Rattle.fill.proofs.Counting.CountedCells.{Counting, counting-first, counting-last, counting-room, counting-on}
 use Rattle.fill.proofs.cells.level_counts.Statement.{statement}
 use Rattle.fill.proofs.cells.level_counts.Tie as tie
 

@@ -7,7 +7,7 @@ use native.Mathlib.Nat.{le-antisymm}
 use lib.ListN.{length, take}
 use lib.Seq.{take-length}
 use Rattle.fill.specs.Splice.{splice}
-use Rattle.fill.proofs.Spliced.{splice-none, splice-more, length-splice-take}
+use Rattle.fill.proofs.Buffers.Splice.{splice-none, splice-more, length-splice-take}
 use Rattle.fill.proofs.copy.copy_to.Statement.{statement}
 use Rattle.fill.proofs.copy.copy_to.Tie as tie
 

@@ -9,8 +9,8 @@ use native.Mathlib.Omega.{arith}
 use lib.ListN.{length, set}
 use Rattle.fill.specs.Level.{partsAt}
 use Rattle.fill.specs.Descent.{linksUpTo}
-use Rattle.fill.proofs.Holding.{region-end}
-use Rattle.fill.proofs.Descended.{Going, going-first, going-last, going-asks, going-on}
+use Rattle.fill.proofs.Buffers.HeldParts.{region-end}
+use Rattle.fill.proofs.Descents.WayDown.{Going, going-first, going-last, going-asks, going-on}
 use Rattle.fill.proofs.descent.descend.Statement.{statement}
 use Rattle.fill.proofs.descent.descend.Tie as tie
 

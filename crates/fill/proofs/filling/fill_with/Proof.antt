@@ -3,7 +3,7 @@ use borrow.Author.Needs.{needs}
 use denote.Ref.{now}
 use native.Mathlib.Omega.{arith}
 use Rattle.table.proofs.Held.{few-inputs, few-outputs}
-use Rattle.fill.proofs.HeldFillings.{asks, left-held, counts-room, cells-room, levels-held}
+use Rattle.fill.proofs.Calls.HeldFilling.{asks, left-held, counts-room, cells-room, levels-held}
 use Rattle.fill.proofs.filling.fill_with.Statement.{statement}
 use Rattle.fill.proofs.filling.fill_with.Tie as tie
 

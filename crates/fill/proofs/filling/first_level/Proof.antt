@@ -11,9 +11,9 @@ use Rattle.table.proofs.Held.{few-inputs, few-outputs, ordered}
 use Rattle.fill.specs.Gather.{variableLevels, rowOf, gatheredPart}
 use Rattle.fill.specs.Calls.{drawnOutputs}
 use Rattle.fill.specs.Filling.{firstWork}
-use Rattle.fill.proofs.Gathered.{places-below}
-use Rattle.fill.proofs.Holding.{zero-start}
-use Rattle.fill.proofs.Fillings.{outputs-encode, first-is}
+use Rattle.fill.proofs.Reorder.Gathered.{places-below}
+use Rattle.fill.proofs.Buffers.HeldParts.{zero-start}
+use Rattle.fill.proofs.Calls.Filling.{outputs-encode, first-is}
 use Rattle.fill.proofs.filling.first_level.Statement.{statement}
 use Rattle.fill.proofs.filling.first_level.Tie as tie
 

@@ -1,7 +1,7 @@
 -- `fill::gather::bit_of` meets its contract.
 -- Assumes nothing.
 use borrow.Author.Needs.{needs}
-use Rattle.fill.proofs.Shifts.{bit-masked}
+use Rattle.fill.proofs.Reorder.Shifts.{bit-masked}
 use Rattle.fill.proofs.gather.bit_of.Statement.{statement}
 use Rattle.fill.proofs.gather.bit_of.Tie as tie
 

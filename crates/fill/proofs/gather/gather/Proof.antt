@@ -9,8 +9,8 @@ use native.Mathlib.Omega.{arith}
 use lib.ListN.{length, length-set}
 use Rattle.fill.specs.Pack.{width}
 use Rattle.fill.specs.Gather.{gatheredByte}
-use Rattle.fill.proofs.Overwritten.{writtenFrom, from-none, from-more}
-use Rattle.fill.proofs.Shifts.{byte-within}
+use Rattle.fill.proofs.Reorder.Written.{writtenFrom, from-none, from-more}
+use Rattle.fill.proofs.Reorder.Shifts.{byte-within}
 use Rattle.fill.proofs.gather.gather.Statement.{statement}
 use Rattle.fill.proofs.gather.gather.Tie as tie
 

@@ -10,7 +10,7 @@ use native.Mathlib.Omega.{arith}
 use lib.ListN.{getD}
 use Rattle.table.specs.Stream.{streamBit}
 use Rattle.fill.specs.Gather.{gatheredByte}
-use Rattle.fill.proofs.Gathered.{bit-set, bit-clear}
+use Rattle.fill.proofs.Reorder.Gathered.{bit-set, bit-clear}
 use Rattle.fill.proofs.gather.gather_byte.Statement.{statement}
 use Rattle.fill.proofs.gather.gather_byte.Tie as tie
 

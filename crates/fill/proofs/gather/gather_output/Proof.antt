@@ -10,8 +10,8 @@ use lib.ListN.{length, drop}
 use Rattle.diagram.proofs.UpTo.{length-map-upTo}
 use Rattle.fill.specs.Pack.{width}
 use Rattle.fill.specs.Gather.{gatheredPlane}
-use Rattle.fill.proofs.Overwritten.{both-written}
-use Rattle.fill.proofs.Shifts.{rows-room, width-room, base-room, base-shifted}
+use Rattle.fill.proofs.Reorder.Written.{both-written}
+use Rattle.fill.proofs.Reorder.Shifts.{rows-room, width-room, base-room, base-shifted}
 use Rattle.fill.proofs.gather.gather_output.Statement.{statement}
 use Rattle.fill.proofs.gather.gather_output.Tie as tie
 

@@ -7,7 +7,7 @@ use native.Mathlib.Omega.{arith}
 use lib.ListN.{getD}
 use Rattle.diagram.specs.Lists.{bit}
 use Rattle.diagram.proofs.Bits.{digit-le}
-use Rattle.fill.proofs.FirstBits.{firstBits, bits-room, bits-more, bits-all}
+use Rattle.fill.proofs.Reorder.RowBits.{firstBits, bits-room, bits-more, bits-all}
 use Rattle.fill.proofs.gather.row_behind.Statement.{statement}
 use Rattle.fill.proofs.gather.row_behind.Tie as tie
 

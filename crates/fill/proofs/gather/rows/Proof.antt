@@ -10,7 +10,7 @@ use Rattle.diagram.proofs.Bits.{one-shifted}
 use Rattle.table.specs.Calls.{over}
 use Rattle.table.proofs.Over.{over-next}
 use Rattle.fill.specs.Gather.{rowOf}
-use Rattle.fill.proofs.Shifts.{rows-room}
+use Rattle.fill.proofs.Reorder.Shifts.{rows-room}
 use Rattle.fill.proofs.gather.rows.Statement.{statement}
 use Rattle.fill.proofs.gather.rows.Tie as tie
 

@@ -1,7 +1,7 @@
 -- `fill::gather::rows_in` meets its contract.
 -- Assumes nothing.
 use borrow.Author.Needs.{needs}
-use Rattle.fill.proofs.Shifts.{rows-few, rows-eight}
+use Rattle.fill.proofs.Reorder.Shifts.{rows-few, rows-eight}
 use Rattle.fill.proofs.gather.rows_in.Statement.{statement}
 use Rattle.fill.proofs.gather.rows_in.Tie as tie
 

@@ -3,7 +3,7 @@ use borrow.Author.Needs.{needs}
 use Prim.Native.Nat.{_^_}
 use native.Mathlib.Omega.{arith}
 use lib.Pow.{pow-pos}
-use Rattle.fill.proofs.Halved.{bits-high, bits-low}
+use Rattle.fill.proofs.Parts.PartHalves.{bits-high, bits-low}
 use Rattle.fill.proofs.halves.half_byte.Statement.{statement}
 use Rattle.fill.proofs.halves.half_byte.Tie as tie
 

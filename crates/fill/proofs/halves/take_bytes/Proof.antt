@@ -5,7 +5,7 @@ use mathlib.Core.Path.{refl}
 use Prim.Native.Nat.{_+_, _≤_}
 use native.Mathlib.Omega.{arith}
 use lib.ListN.{length}
-use Rattle.fill.proofs.Halved.{bytes-within, bytes-copied}
+use Rattle.fill.proofs.Parts.PartHalves.{bytes-within, bytes-copied}
 use Rattle.fill.proofs.halves.take_bytes.Statement.{statement}
 use Rattle.fill.proofs.halves.take_bytes.Tie as tie
 

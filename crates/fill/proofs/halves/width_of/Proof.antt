@@ -1,8 +1,8 @@
 -- `fill::halves::width_of` meets its contract: from three variables on a width is a power of two. Assumes nothing.
 use borrow.Author.Needs.{needs}
 use mathlib.Core.Path.{sym}
-use Rattle.fill.proofs.PackLaws.{width-small}
-use Rattle.fill.proofs.Shifts.{width-shifted}
+use Rattle.fill.proofs.Reorder.Pack.{width-small}
+use Rattle.fill.proofs.Reorder.Shifts.{width-shifted}
 use Rattle.fill.proofs.halves.width_of.Statement.{statement}
 use Rattle.fill.proofs.halves.width_of.Tie as tie
 

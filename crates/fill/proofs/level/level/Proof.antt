@@ -8,7 +8,7 @@ use native.Mathlib.Numerals.{add-one}
 use native.Mathlib.Omega.{arith}
 use lib.ListN.{length}
 use Rattle.fill.specs.Pack.{width}
-use Rattle.fill.proofs.Turned.{SoFar, so-far-none, in-region, turn-asks, turn-done}
+use Rattle.fill.proofs.Linking.LinkedHalves.{SoFar, so-far-none, in-region, turn-asks, turn-done}
 use Rattle.fill.proofs.level.level.Statement.{statement}
 use Rattle.fill.proofs.level.level.Tie as tie
 

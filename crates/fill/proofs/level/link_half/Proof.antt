@@ -10,8 +10,8 @@ use lib.ListN.{length, take}
 use Rattle.fill.specs.Pack.{width}
 use Rattle.fill.specs.Parts.{halfPart}
 use Rattle.fill.specs.Level.{partAt}
-use Rattle.fill.proofs.Halved.{length-half}
-use Rattle.fill.proofs.Levelled.{part-is, length-part, cand-is, half-is, placed-half, placed-asks}
+use Rattle.fill.proofs.Parts.PartHalves.{length-half}
+use Rattle.fill.proofs.Linking.LinkedHalf.{part-is, length-part, cand-is, half-is, placed-half, placed-asks}
 use Rattle.fill.proofs.level.link_half.Statement.{statement}
 use Rattle.fill.proofs.level.link_half.Tie as tie
 

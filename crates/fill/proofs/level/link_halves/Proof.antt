@@ -1,6 +1,6 @@
 -- `fill::level::link_halves` meets its contract: the part lies outside of what the first half's placing writes. Assumes nothing.
 use borrow.Author.Needs.{needs}
-use Rattle.fill.proofs.Turned.{second-room, both-placed}
+use Rattle.fill.proofs.Linking.LinkedHalves.{second-room, both-placed}
 use Rattle.fill.proofs.level.link_halves.Statement.{statement}
 use Rattle.fill.proofs.level.link_halves.Tie as tie
 

@@ -3,7 +3,7 @@ use borrow.Author.Needs.{needs}
 use Prim.Native.Nat.{_/_, _%_}
 use native.Mathlib.Omega.{arith}
 use lib.ListN.{length-set}
-use Rattle.fill.proofs.Spliced.{set-pair}
+use Rattle.fill.proofs.Buffers.Splice.{set-pair}
 use Rattle.fill.proofs.level.put_link.Statement.{statement}
 use Rattle.fill.proofs.level.put_link.Tie as tie
 

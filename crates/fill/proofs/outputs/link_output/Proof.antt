@@ -8,9 +8,9 @@ use Prim.Native.Nat.{ℕ, _+_, _-_, _*_}
 use native.Mathlib.Omega.{arith}
 use lib.ListN.{length, take}
 use Rattle.fill.specs.Gather.{gatheredPart}
-use Rattle.fill.proofs.Shifts.{width-room}
-use Rattle.fill.proofs.Levelled.{placed-half, placed-asks}
-use Rattle.fill.proofs.OutputsLinked.{length-gathered, output-is}
+use Rattle.fill.proofs.Reorder.Shifts.{width-room}
+use Rattle.fill.proofs.Linking.LinkedHalf.{placed-half, placed-asks}
+use Rattle.fill.proofs.Linking.LinkedOutputs.{length-gathered, output-is}
 use Rattle.fill.proofs.outputs.link_output.Statement.{statement}
 use Rattle.fill.proofs.outputs.link_output.Tie as tie
 

@@ -6,7 +6,7 @@ use Prim.Native.Nat.{ℕ, _-_, _≤_, _<_, zero-le}
 use native.Mathlib.Nat.{le-antisymm}
 use native.Mathlib.Omega.{arith}
 use lib.ListN.{length}
-use Rattle.fill.proofs.OutputsLinked.{Linked, placed-none, output-room, output-placed}
+use Rattle.fill.proofs.Linking.LinkedOutputs.{Linked, placed-none, output-room, output-placed}
 use Rattle.fill.proofs.outputs.link_outputs.Statement.{statement}
 use Rattle.fill.proofs.outputs.link_outputs.Tie as tie
 

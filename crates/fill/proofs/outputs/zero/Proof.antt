@@ -6,8 +6,8 @@ use Prim.Native.Nat.{ℕ, _+_, _-_, _≤_}
 use native.Mathlib.Nat.{le-antisymm}
 use lib.ListN.{length, replicate, length-set}
 use Rattle.fill.specs.Splice.{splice}
-use Rattle.fill.proofs.Spliced.{splice-none}
-use Rattle.fill.proofs.Zeros.{zeros-more}
+use Rattle.fill.proofs.Buffers.Splice.{splice-none}
+use Rattle.fill.proofs.Buffers.Zeros.{zeros-more}
 use Rattle.fill.proofs.outputs.zero.Statement.{statement}
 use Rattle.fill.proofs.outputs.zero.Tie as tie
 
