@@ -5,3 +5,4 @@ pub mod Splice
 pub mod Windows
 pub mod WrittenLevel
 pub mod Zeros
+pub mod Sizes

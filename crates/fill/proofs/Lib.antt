@@ -4,5 +4,4 @@ pub mod Counting
 pub mod Descents
 pub mod Linking
 pub mod Parts
-pub mod Reorder
 pub mod Room

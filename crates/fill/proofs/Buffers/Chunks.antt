@@ -8,8 +8,8 @@ use native.Mathlib.Numerals.{add-one}
 use native.Mathlib.Omega.{arith}
 use lib.ListN.{length, take, drop, length-append, take-append-drop}
 use lib.Seq.{take-add, drop-drop}
-use Rattle.fill.specs.Parts.{chunks, flat}
-use Rattle.fill.specs.Splice.{splice}
+use Rattle.fill.specs.inner.Parts.{chunks, flat}
+use Rattle.fill.specs.inner.Splice.{splice}
 use Rattle.fill.proofs.Buffers.Splice.{put-back}
 
 pub flat-append : (ps qs : List (List ℕ)) → flat (ps ++ qs) ≡ flat ps ++ flat qs

@@ -10,9 +10,9 @@ use lib.ListN.{length, take, drop, length-append, length-drop}
 use lib.Seq.{length-take-le, take-at, drop-at, take-take}
 use Rattle.diagram.specs.Fill.{Link}
 use Rattle.diagram.proofs.Bools.{split}
-use Rattle.fill.specs.Pack.{width}
-use Rattle.fill.specs.Parts.{LevelParts, linkNumber, alwaysPart, agreePart, alongParts, candidatePart, levelParts, chunks, flat, halfPart, halfParts}
-use Rattle.fill.specs.Work.{linkBytes}
+use Rattle.reorder.specs.Sizes.{width}
+use Rattle.fill.specs.inner.Parts.{LevelParts, alwaysPart, agreePart, alongParts, candidatePart, levelParts, chunks, flat, halfPart, halfParts}
+use Rattle.fill.specs.Work.{linkNumber, linkBytes}
 use Rattle.fill.proofs.Parts.PartMerge.{length-merge}
 use Rattle.fill.proofs.Parts.PartHalves.{length-half}
 use Rattle.fill.proofs.Buffers.Splice.{drop-take}

@@ -9,7 +9,7 @@ use native.Mathlib.Omega.{arith}
 use lib.ListN.{length, getD, take, drop, set, length-append, length-drop, List·getD-append, take-append-drop}
 use lib.Seq.{length-take-le, drop-cons, take-suc, take-nil, drop-drop, take-append-seam, drop-append-add}
 use lib.Seq.{set-at, set-append-left, take-set-lt, drop-set-lt, getD-append-add, getD-drop, getD-take}
-use Rattle.fill.specs.Splice.{splice}
+use Rattle.fill.specs.inner.Splice.{splice}
 
 pub drop-take : (n k : ℕ) (l : List ℕ) → drop n (take (n + k) l) ≡ take k (drop n l)
 drop-take zero k l = ap (λ (m : ℕ). take m l) (zero-add k)

@@ -6,7 +6,7 @@ use Prim.Native.Nat.{ℕ, _+_, _-_, _≤_}
 use native.Mathlib.Omega.{arith}
 use lib.ListN.{length, take, drop, length-append, length-take, length-drop}
 use lib.Seq.{length-take-le, take-at, drop-at, take-append-le, drop-append-le, take-append-add, drop-append-add, take-take, drop-drop}
-use Rattle.fill.specs.Splice.{splice}
+use Rattle.fill.specs.inner.Splice.{splice}
 use Rattle.fill.proofs.Buffers.Splice.{splice-front, length-front, drop-take}
 
 -- a sum's difference taken out of a drop

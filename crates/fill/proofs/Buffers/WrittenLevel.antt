@@ -8,10 +8,10 @@ use native.Mathlib.Nat.{mul-le-mul-right}
 use native.Mathlib.Omega.{arith}
 use lib.ListN.{length, take, drop}
 use Rattle.diagram.specs.Fill.{Link}
-use Rattle.fill.specs.Parts.{LevelParts, levelParts, chunks, flat}
-use Rattle.fill.specs.Work.{linkBytes}
-use Rattle.fill.specs.Splice.{splice}
-use Rattle.fill.specs.Level.{written}
+use Rattle.fill.specs.inner.Parts.{LevelParts, levelParts, chunks, flat}
+use Rattle.fill.specs.Work.{regionSize, linkBytes}
+use Rattle.fill.specs.inner.Splice.{splice}
+use Rattle.fill.specs.inner.Level.{written}
 use Rattle.fill.proofs.Buffers.Splice.{length-splice, splice-none}
 use Rattle.fill.proofs.Buffers.Windows.{window-before, drop-here, drop-behind, splice-over, splice-append, splice-swap}
 use Rattle.fill.proofs.Buffers.PartLengths.{Long, length-flat, chunks-flat, chunks-take, level-grown, level-links, length-links, links-append, level-append}
@@ -23,10 +23,10 @@ written-none to links work = splice-none (splice work to []) links ∙ splice-no
 
 -- parts of s bytes each that fit a region
 abbrev pub Fit : ℕ → List (List ℕ) → Type 0
-Fit s gs = Long s gs × (length gs * s ≤ 4096)
+Fit s gs = Long s gs × (length gs * s ≤ regionSize)
 
-module _ (s to links : ℕ) (work : List ℕ) (behind : to + 4096 ≤ links) (in-work : links ≤ length work) where
-  pub fit-end : (gs : List (List ℕ)) → Fit s gs → length (flat gs) ≤ 4096
+module _ (s to links : ℕ) (work : List ℕ) (behind : to + regionSize ≤ links) (in-work : links ≤ length work) where
+  pub fit-end : (gs : List (List ℕ)) → Fit s gs → length (flat gs) ≤ regionSize
   fit-end gs h = omega (arith, length-flat s gs (h .0), h .1)
 
   length-parts : (gs : List (List ℕ)) → Fit s gs → length (splice work to (flat gs)) ≡ length work
@@ -38,9 +38,9 @@ module _ (s to links : ℕ) (work : List ℕ) (behind : to + 4096 ≤ links) (in
   parts-under gs x h =
       let m = splice work to (flat gs) in
       let k = length gs in
-      sym (chunks-take s k 4096 (drop to (splice m links x)) (h .1))
-      ∙ ap (chunks s k) (window-before m links x (omega (arith, length-parts gs h)) to 4096 behind)
-      ∙ chunks-take s k 4096 (drop to m) (h .1)
+      sym (chunks-take s k regionSize (drop to (splice m links x)) (h .1))
+      ∙ ap (chunks s k) (window-before m links x (omega (arith, length-parts gs h)) to regionSize behind)
+      ∙ chunks-take s k regionSize (drop to m) (h .1)
       ∙ ap (chunks s k) (drop-here work to (flat gs) (omega arith))
       ∙ chunks-flat s gs (drop (to + length (flat gs)) work) (h .0)
 
@@ -49,14 +49,14 @@ module _ (s to links : ℕ) (work : List ℕ) (behind : to + 4096 ≤ links) (in
   parts-there l h = parts-under (l .parts) (linkBytes (l .links)) h
 
   -- what lies outside of the region and before the links is as it was
-  pub outside : (l : LevelParts) → Fit s (l .parts) → (n j : ℕ) → n + j ≤ links → (n + j ≤ to) ⊎ (to + 4096 ≤ n)
+  pub outside : (l : LevelParts) → Fit s (l .parts) → (n j : ℕ) → n + j ≤ links → (n + j ≤ to) ⊎ (to + regionSize ≤ n)
       → take j (drop n (written l to links work)) ≡ take j (drop n work)
   unfolding written
   outside l h n j i o =
       let gs = l .parts in
       window-before (splice work to (flat gs)) links (linkBytes (l .links)) (omega (arith, length-parts gs h)) n j i
       ∙ ⊎-elim (λ (p : n + j ≤ to). window-before work to (flat gs) (omega arith) n j p)
-      (λ (q : to + 4096 ≤ n). ap (take j) (drop-behind work to (flat gs) (omega arith) n (omega (arith, fit-end gs h))))
+      (λ (q : to + regionSize ≤ n). ap (take j) (drop-behind work to (flat gs) (omega arith) n (omega (arith, fit-end gs h))))
       o
 
   -- more parts and more links
@@ -77,9 +77,9 @@ module _ (s to links : ℕ) (work : List ℕ) (behind : to + 4096 ≤ links) (in
 
 -- Candidates hs after candidates fs, of w bytes of values: k entries are there, m is the work buffer then and m′ the one afterwards,
 -- n the place of the links.
-module _ (w to links : ℕ) (work : List ℕ) (behind : to + 4096 ≤ links) (in-work : links ≤ length work)
+module _ (w to links : ℕ) (work : List ℕ) (behind : to + regionSize ≤ links) (in-work : links ≤ length work)
     (gs fs hs : List (List ℕ)) (lg : Long (w + w) gs) (lf : Long (w + w) fs) (lh : Long (w + w) hs)
-    (room : (length gs + (length fs + length hs)) * (w + w) ≤ 4096) where
+    (room : (length gs + (length fs + length hs)) * (w + w) ≤ regionSize) where
   -- after fs, and after hs
   pub fit-first : Fit (w + w) (levelParts w gs fs .parts)
   fit-first =

@@ -4,7 +4,6 @@ use mathlib.Core.Path.{_≡_, refl, sym, ap, _∙_}
 use mathlib.Core.Bool.{Bool, true, false, not, _&&_, false≢true, and-false}
 use mathlib.Core.List.{List}
 use Prim.Native.Nat.{ℕ, _≤_, _<_}
-use native.Mathlib.Omega.{arith}
 use borrow.Author.Tests.{le-leb, lt-leb}
 use lib.Dec.{T, leb, leb→le}
 use lib.ListN.{length}
@@ -18,7 +17,8 @@ use Rattle.table.specs.State.{orderOf, stageOf, isNothing}
 use Rattle.table.specs.Calls.{planeSize}
 use Rattle.fill.specs.Work.{workSize, zeroWork, clearedWork}
 use Rattle.fill.specs.Calls.{heldTable, enough, countAnswer, countWork, levelsOf, linksWork}
-use Rattle.fill.specs.Filling.{filledWork, filledLevels, refusedLevels}
+use Rattle.fill.specs.inner.Filling.{filledWork, filledLevels, refusedLevels}
+use Rattle.fill.proofs.Buffers.Sizes.{sizes}
 use Rattle.fill.proofs.Calls.HeldFilling.{filled-past}
 
 module _ (s : State) (values care work : List ℕ) where
@@ -36,17 +36,17 @@ module _ (s : State) (values care work : List ℕ) where
   unfolding planeSize
   short-care h = not-enough (rw (lt-leb 2048 (length care) h) (and-false (leb 2048 (length values))))
 
-  pub short-work : length work < 32768 → countAnswer s values care work ≡ ShortBuffer
+  pub short-work : length work < workSize → countAnswer s values care work ≡ ShortBuffer
   unfolding planeSize workSize
   short-work h =
       not-enough
-      (rw (lt-leb 32768 (length work) h)
+      (rw (lt-leb workSize (length work) h)
       (ap (λ (b : Bool). leb 2048 (length values) && b) (and-false (leb 2048 (length care))) ∙ and-false (leb 2048 (length values))))
 
-  module _ (v : 2048 ≤ length values) (c : 2048 ≤ length care) (w : 32768 ≤ length work) where
+  module _ (v : 2048 ≤ length values) (c : 2048 ≤ length care) (w : workSize ≤ length work) where
     is-enough : enough values care work ≡ true
     unfolding planeSize workSize
-    is-enough = rw (le-leb 2048 (length values) v, le-leb 2048 (length care) c, le-leb 32768 (length work) w)
+    is-enough = rw (le-leb 2048 (length values) v, le-leb 2048 (length care) c, le-leb workSize (length work) w)
 
     pub no-table : not (isNothing (stageOf s)) ≡ false → countAnswer s values care work ≡ NoTable
     unfolding countAnswer
@@ -70,13 +70,13 @@ module _ (s : State) (values care work : List ℕ) where
 
 -- a work buffer made zero
 
-pub cleared-short : (work : List ℕ) → length work < 32768 → work ≡ clearedWork work
+pub cleared-short : (work : List ℕ) → length work < workSize → work ≡ clearedWork work
 unfolding clearedWork workSize
-cleared-short work h = rw (lt-leb 32768 (length work) h)
+cleared-short work h = rw (lt-leb workSize (length work) h)
 
-pub cleared-zero : (work m : List ℕ) → 32768 ≤ length work → m ≡ zeroWork work → m ≡ clearedWork work
+pub cleared-zero : (work m : List ℕ) → workSize ≤ length work → m ≡ zeroWork work → m ≡ clearedWork work
 unfolding clearedWork workSize
-cleared-zero work m h e = rw (le-leb 32768 (length work) h) e
+cleared-zero work m h e = rw (le-leb workSize (length work) h) e
 
 -- the work buffer after a count, by the answer
 
@@ -91,15 +91,15 @@ count-refused s values care work m d e = e ∙ (rw d)
 
 -- a success: the table was held, and the work buffer had its size
 done-held : (s : State) (values care work : List ℕ) → done (countAnswer s values care work) ≡ true
-    → (32768 ≤ length work) × T (not (isNothing (stageOf s)))
+    → (workSize ≤ length work) × T (not (isNothing (stageOf s)))
 unfolding countAnswer workSize
 done-held s values care work d =
     split (enough values care work)
     (λ e. split (not (isNothing (stageOf s)))
     (λ h. let a = leb planeSize (length values) in
     let b = leb planeSize (length care) in
-    let c = leb 32768 (length work) in
-    (leb→le 32768 (length work) (and-r b c (and-r a (b && c) (to-T e))), to-T h))
+    let c = leb workSize (length work) in
+    (leb→le workSize (length work) (and-r b c (and-r a (b && c) (to-T e))), to-T h))
     (λ h. absurd (false≢true (rw (e, h) at d))))
     (λ e. absurd (false≢true (rw e at d)))
 
@@ -110,7 +110,7 @@ count-cleared s values care work m m′ d e q l =
     let (big, held) = done-held s values care work d in
     let f : m ≡ filledWork s values care work = rw d at e in
     q
-    ∙ sym (cleared-zero m (zeroWork m) (omega arith) refl)
+    ∙ sym (cleared-zero m (zeroWork m) (omega sizes) refl)
     ∙ ap zeroWork f
     ∙ filled-past s values care held work big
     ∙ (rw d)

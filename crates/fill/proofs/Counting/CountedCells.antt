@@ -13,9 +13,9 @@ use lib.ListN.{length, getD, take, drop, set, length-append, drop-of-length-le}
 use lib.Seq.{drop-cons}
 use Rattle.diagram.specs.Lists.{digit}
 use Rattle.table.proofs.Orders.{rest-cons, rest-none}
-use Rattle.fill.specs.Calls.{tenOf}
-use Rattle.fill.specs.Counts.{pairDiffers, differingPairs, countsAt, linksEnd}
-use Rattle.fill.proofs.Counting.PerLevel.{ten-more, sum-cons}
+use Rattle.fill.specs.Calls.{perLevel}
+use Rattle.fill.specs.inner.Counts.{pairDiffers, differingPairs, countsAt, linksEnd}
+use Rattle.fill.proofs.Counting.PerLevel.{per-level-more, sum-cons}
 
 -- one pair
 
@@ -45,18 +45,18 @@ pub record Counting (work : List ℕ) (start n : ℕ) (entries : List ℕ) (p at
   pub all-counts : passed ++ countsAt work at (drop p (take n entries)) ≡ countsAt work start (take n entries)
   pub levels : length passed ≡ p
   pub ends : linksEnd at (drop p (take n entries)) ≡ linksEnd start (take n entries)
-  pub recorded : counts ≡ tenOf passed
+  pub recorded : counts ≡ perLevel passed
 
 module _ (work : List ℕ) (start n : ℕ) (entries : List ℕ) (fits : n ≤ length entries) where
-  pub counting-first : Counting work start n entries 0 start (tenOf [])
+  pub counting-first : Counting work start n entries 0 start (perLevel [])
   counting-first = record { passed = []; all-counts = refl; levels = refl; ends = refl; recorded = refl }
 
   pub counting-last : (p at : ℕ) (counts : List ℕ) → p ≡ n → Counting work start n entries p at counts
-      → counts ≡ tenOf (countsAt work start (take n entries))
+      → counts ≡ perLevel (countsAt work start (take n entries))
   counting-last p at counts e c =
       let none : drop p (take n entries) ≡ [] = rest-none entries n p fits (omega arith) in
       c .recorded
-      ∙ ap tenOf (sym (append-nil (c .passed)) ∙ ap (λ (ks : List ℕ). c .passed ++ countsAt work at ks) (sym none) ∙ c .all-counts)
+      ∙ ap perLevel (sym (append-nil (c .passed)) ∙ ap (λ (ks : List ℕ). c .passed ++ countsAt work at ks) (sym none) ∙ c .all-counts)
 
   module _ (p at : ℕ) (counts : List ℕ) (more : p < n) (c : Counting work start n entries p at counts) where
     here : drop p (take n entries) ≡ getD entries p 0 ∷ drop (p + 1) (take n entries)
@@ -82,7 +82,7 @@ module _ (work : List ℕ) (start n : ℕ) (entries : List ℕ) (fits : n ≤ le
               ∙ c .all-counts;
           levels = length-append (c .passed) (x ∷ []) ∙ ap (λ (y : ℕ). y + 1) (c .levels);
           ends = ends-here;
-          recorded = q ∙ ten-more (c .passed) x p counts (sym (c .levels)) (omega (arith, c .levels)) (c .recorded);
+          recorded = q ∙ per-level-more (c .passed) x p counts (sym (c .levels)) (omega (arith, c .levels)) (c .recorded);
         }
 
 -- all added up

@@ -16,11 +16,11 @@ use Rattle.diagram.proofs.Bools.{split, both-ways, and-T, and-l, and-r, beq→e
 use Rattle.diagram.proofs.Bits.{digit-le}
 use Rattle.table.specs.Stream.{sum}
 use Rattle.table.proofs.Sums.{sum-add, sum-cong}
-use Rattle.fill.specs.Pack.{width}
-use Rattle.fill.specs.Parts.{alwaysPart, agreePart, alongParts, candidatePart, levelParts, linkNumber, halfParts}
-use Rattle.fill.specs.Work.{linkBytes, allLinks}
-use Rattle.fill.specs.Descent.{levelBelow, linksBelow, countsBelow, roomy}
-use Rattle.fill.specs.Counts.{pairDiffers, differingPairs, countsAt, linksEnd}
+use Rattle.reorder.specs.Sizes.{width}
+use Rattle.fill.specs.inner.Parts.{alwaysPart, agreePart, alongParts, candidatePart, levelParts, halfParts}
+use Rattle.fill.specs.Work.{regionSize, linkNumber, linkBytes, allLinks}
+use Rattle.fill.specs.inner.Descent.{levelBelow, linksBelow, countsBelow, roomy}
+use Rattle.fill.specs.inner.Counts.{pairDiffers, differingPairs, countsAt, linksEnd}
 use Rattle.fill.proofs.Parts.PartHalves.{width-pos}
 use Rattle.fill.proofs.Buffers.PartLengths.{Long, length-links, candidate-grown, level-grown, long-halves}
 use Rattle.fill.proofs.Descents.LevelsBelow.{links-suc, counts-suc, bytes-suc, links-two, links-length, Room, room-suc, level-fits}
@@ -159,7 +159,7 @@ below-under : (d : ℕ) (parts : List (List ℕ)) → Long (width (suc d) + widt
 below-under d parts h r =
     let f = level-fits d parts h r in
     let n = length (levelBelow d parts .parts) in
-    let c : n * 2 ≤ 4096 = omega (arith, f .1, mul-le-mul-left n (two-wide d)) in
+    let c : n * 2 ≤ regionSize = omega (arith, f .1, mul-le-mul-left n (two-wide d)) in
     under-more (omega arith) (levelBelow d parts .links) (level-under (width d) [] (halfParts d parts) tt (long-halves d parts h))
 
 pub counts-below : (work : List ℕ) (d at : ℕ) (parts : List (List ℕ)) (rest : List ℕ) → Long (width d + width d) parts → T (roomy d parts)

@@ -14,10 +14,10 @@ use Rattle.diagram.specs.Lists.{upTo}
 use Rattle.diagram.proofs.Bools.{split}
 use Rattle.diagram.proofs.UpTo.{map-upTo-cong, getD-map-upTo}
 use Rattle.table.proofs.Filled.{filled, filled-more}
-use Rattle.fill.specs.Calls.{tenOf}
+use Rattle.fill.specs.Calls.{perLevel}
 
 -- the first numbers of a longer list
-ten-filled : (xs ys : List ℕ) → tenOf xs ≡ filled (λ w. getD (xs ++ ys) w 0) 10 (length xs)
+ten-filled : (xs ys : List ℕ) → perLevel xs ≡ filled (λ w. getD (xs ++ ys) w 0) 10 (length xs)
 ten-filled xs ys =
     map-upTo-cong 10 (λ w. getD xs w 0) (λ w. cond (ltb w (length xs)) (getD (xs ++ ys) w 0) 0)
     (λ w h. split (ltb w (length xs))
@@ -25,8 +25,8 @@ ten-filled xs ys =
     (λ e. rw e (List·getD-eq-default xs 0 (ltb-false w (length xs) e))))
 
 -- one number more
-pub ten-more : (xs : List ℕ) (x j : ℕ) (l : List ℕ) → j ≡ length xs → length xs < 10 → l ≡ tenOf xs → set l j x ≡ tenOf (xs ++ (x ∷ []))
-ten-more xs x j l e h q =
+pub per-level-more : (xs : List ℕ) (x j : ℕ) (l : List ℕ) → j ≡ length xs → length xs < 10 → l ≡ perLevel xs → set l j x ≡ perLevel (xs ++ (x ∷ []))
+per-level-more xs x j l e h q =
     let ys = xs ++ (x ∷ []) in
     let n : length xs + 1 ≡ length ys = sym (length-append xs (x ∷ [])) in
     ap (λ (k : ℕ). set l k x) e
@@ -35,15 +35,15 @@ ten-more xs x j l e h q =
     ∙ ap (λ (zs : List ℕ). filled (λ w. getD zs w 0) 10 (length ys)) (sym (append-nil ys))
     ∙ sym (ten-filled ys [])
 
-pub ten-at : (xs : List ℕ) (k : ℕ) → k < 10 → getD (tenOf xs) k 0 ≡ getD xs k 0
-ten-at xs k h = getD-map-upTo (λ w. getD xs w 0) 10 k 0 h
+pub per-level-at : (xs : List ℕ) (k : ℕ) → k < 10 → getD (perLevel xs) k 0 ≡ getD xs k 0
+per-level-at xs k h = getD-map-upTo (λ w. getD xs w 0) 10 k 0 h
 
 -- the list again
-pub ten-take : (xs : List ℕ) (n : ℕ) → length xs ≡ n → n ≤ 10 → take n (tenOf xs) ≡ xs
-ten-take xs n e h =
-    let l : length (take n (tenOf xs)) ≡ n = length-take-le n (tenOf xs) h in
-    ext-getD 0 (take n (tenOf xs)) xs (l ∙ sym e)
-    (λ i q. let i-n : i < n = omega arith in getD-take n (tenOf xs) i 0 i-n ∙ ten-at xs i (omega arith))
+pub per-level-take : (xs : List ℕ) (n : ℕ) → length xs ≡ n → n ≤ 10 → take n (perLevel xs) ≡ xs
+per-level-take xs n e h =
+    let l : length (take n (perLevel xs)) ≡ n = length-take-le n (perLevel xs) h in
+    ext-getD 0 (take n (perLevel xs)) xs (l ∙ sym e)
+    (λ i q. let i-n : i < n = omega arith in getD-take n (perLevel xs) i 0 i-n ∙ per-level-at xs i (omega arith))
 
 -- added up
 
@@ -69,5 +69,5 @@ sum-getD xs (suc j) =
     ∙ add-zero (sum _+_ 0 (take j xs))
     ∙ ap (sum _+_ 0) (take-all j xs h ∙ sym (take-all (suc j) xs (omega arith))))
 
-pub sum-ten : (xs : List ℕ) → length xs ≤ 10 → sum _+_ 0 (tenOf xs) ≡ sum _+_ 0 xs
-sum-ten xs h = sum-getD xs 10 ∙ ap (sum _+_ 0) (take-all 10 xs h)
+pub sum-per-level : (xs : List ℕ) → length xs ≤ 10 → sum _+_ 0 (perLevel xs) ≡ sum _+_ 0 xs
+sum-per-level xs h = sum-getD xs 10 ∙ ap (sum _+_ 0) (take-all 10 xs h)

@@ -8,10 +8,10 @@ use native.Mathlib.Omega.{arith}
 use lib.Dec.{T, leb, leb→le, eqb→eq}
 use lib.ListN.{length, length-append}
 use Rattle.diagram.proofs.Bools.{and-l, and-r}
-use Rattle.fill.specs.Pack.{width}
-use Rattle.fill.specs.Parts.{halfParts}
-use Rattle.fill.specs.Work.{linkBytes, allLinks}
-use Rattle.fill.specs.Descent.{levelBelow, linksBelow, countsBelow, roomy}
+use Rattle.reorder.specs.Sizes.{width}
+use Rattle.fill.specs.inner.Parts.{halfParts}
+use Rattle.fill.specs.Work.{regionSize, linkBytes, allLinks}
+use Rattle.fill.specs.inner.Descent.{levelBelow, linksBelow, countsBelow, roomy}
 use Rattle.fill.proofs.Buffers.PartLengths.{Long, level-grown, level-links, links-append, long-halves, length-halves}
 use Rattle.fill.proofs.Buffers.WrittenLevel.{Fit}
 
@@ -29,20 +29,20 @@ pub joined-suc : (d : ℕ) (parts : List (List ℕ))
 joined-suc d parts = ap allLinks (links-suc d parts)
 
 pub record Room (d : ℕ) (parts : List (List ℕ)) : Type 0 where
-  pub here : length parts * (width (suc d) + width (suc d)) ≤ 4096
-  pub next : (length parts + length parts) * (width d + width d) ≤ 4096
+  pub here : length parts * (width (suc d) + width (suc d)) ≤ regionSize
+  pub next : (length parts + length parts) * (width d + width d) ≤ regionSize
   pub below : T (roomy d (levelBelow d parts .parts))
 
 pub room-suc : (d : ℕ) (parts : List (List ℕ)) → T (roomy (suc d) parts) → Room d parts
 unfolding roomy
 room-suc d parts t =
-    let a = leb (length parts * (width (suc d) + width (suc d))) 4096 in
-    let b = leb ((length parts + length parts) * (width d + width d)) 4096 in
+    let a = leb (length parts * (width (suc d) + width (suc d))) regionSize in
+    let b = leb ((length parts + length parts) * (width d + width d)) regionSize in
     let c = roomy d (levelBelow d parts .parts) in
     let r = and-r a _ t in
     record {
-      here = leb→le (length parts * (width (suc d) + width (suc d))) 4096 (and-l a _ t);
-      next = leb→le ((length parts + length parts) * (width d + width d)) 4096 (and-l b c r);
+      here = leb→le (length parts * (width (suc d) + width (suc d))) regionSize (and-l a _ t);
+      next = leb→le ((length parts + length parts) * (width d + width d)) regionSize (and-l b c r);
       below = and-r b c r;
     }
 
@@ -52,7 +52,7 @@ none-left [] t = refl
 none-left (p ∷ parts) t = let e : suc (length parts) ≡ 0 = eqb→eq (suc (length parts)) 0 t in absurd (suc-ne-zero (length parts) e)
 
 -- the first entries fit their region
-pub room-first : (d : ℕ) (parts : List (List ℕ)) → T (roomy d parts) → length parts * (width d + width d) ≤ 4096
+pub room-first : (d : ℕ) (parts : List (List ℕ)) → T (roomy d parts) → length parts * (width d + width d) ≤ regionSize
 room-first zero parts t = let e : length parts ≡ 0 = ap length (none-left parts t) in omega arith
 room-first (suc d) parts t = room-suc d parts t .here
 

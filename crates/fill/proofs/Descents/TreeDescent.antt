@@ -7,10 +7,11 @@ use Prim.Native.Nat.{ℕ, zero, suc}
 use lib.ListN.{length, length-map}
 use Rattle.diagram.specs.Tree.{Tree, halves}
 use Rattle.diagram.specs.Fill.{Row, Link, level, trace}
-use Rattle.fill.specs.Pack.{width, encode}
-use Rattle.fill.specs.Parts.{LevelParts, levelParts}
+use Rattle.reorder.specs.Sizes.{width}
+use Rattle.reorder.specs.inner.Pack.{encode}
+use Rattle.fill.specs.inner.Parts.{LevelParts, levelParts}
 use Rattle.fill.specs.Calls.{entryCounts}
-use Rattle.fill.specs.Descent.{levelBelow, linksBelow, countsBelow}
+use Rattle.fill.specs.inner.Descent.{levelBelow, linksBelow, countsBelow}
 use Rattle.fill.proofs.Parts.TreeHalves.{halves-bytes}
 use Rattle.fill.proofs.Linking.TreeLevel.{levelPart, level-bytes}
 use Rattle.fill.proofs.Descents.LevelsBelow.{links-suc, counts-suc}

@@ -10,9 +10,10 @@ use native.Mathlib.Omega.{arith}
 use lib.ListN.{length, take, drop, take-append-drop}
 use Rattle.diagram.specs.Lists.{digit}
 use Rattle.diagram.specs.Fill.{const, entry}
-use Rattle.fill.specs.Parts.{LinkedPart, afterPart, agreePart, alwaysPart, mergePart, alongParts, candidatePart, linkNumber, chunks, flat}
-use Rattle.fill.specs.Splice.{splice}
-use Rattle.fill.specs.Tried.{triedLink, triedPart}
+use Rattle.fill.specs.inner.Parts.{LinkedPart, afterPart, agreePart, alwaysPart, mergePart, alongParts, candidatePart, chunks, flat}
+use Rattle.fill.specs.Work.{linkNumber}
+use Rattle.fill.specs.inner.Splice.{splice}
+use Rattle.fill.specs.inner.Tried.{triedLink, triedPart}
 use Rattle.fill.proofs.Parts.PartMerge.{length-merge}
 use Rattle.fill.proofs.Buffers.Chunks.{length-chunks, flat-chunks, chunks-more, chunks-from, withPart, length-with, flat-with}
 use Rattle.fill.proofs.Linking.TriedEntry.{First, tried-link, tried-part, tried-some, tried-no, tried-kept, room}

@@ -1,6 +1,6 @@
--- Laws of a level in the work buffer.
+-- A candidate linked in the work buffer: the half that is one, the region lent, and what is asked and left.
 -- Assumes nothing.
-use mathlib.Core.Path.{_≡_, sym, ap, ap₂, _∙_, subst, subst₃}
+use mathlib.Core.Path.{_≡_, sym, ap, ap₂, _∙_, subst, subst₂}
 use mathlib.Core.Bool.{Bool}
 use mathlib.Core.List.{List, [], _∷_, _++_, append-assoc}
 use Prim.Native.Nat.{ℕ, suc, _+_, _*_, _-_, _/_, _%_, _≤_, _<_}
@@ -9,10 +9,11 @@ use native.Mathlib.Numerals.{add-one}
 use native.Mathlib.Omega.{arith}
 use lib.ListN.{length, take, drop, length-drop, take-append-drop}
 use lib.Seq.{length-take-le, take-at, drop-append-le, drop-drop}
-use Rattle.fill.specs.Pack.{width}
-use Rattle.fill.specs.Parts.{candidatePart, levelParts, linkNumber, chunks, flat, halfPart}
-use Rattle.fill.specs.Splice.{splice}
-use Rattle.fill.specs.Level.{partAt, partsAt, written}
+use Rattle.reorder.specs.Sizes.{width}
+use Rattle.fill.specs.inner.Parts.{candidatePart, levelParts, chunks, flat, halfPart}
+use Rattle.fill.specs.Work.{regionSize, linkNumber}
+use Rattle.fill.specs.inner.Splice.{splice}
+use Rattle.fill.specs.inner.Level.{partAt, partsAt, written}
 use Rattle.fill.proofs.Buffers.Chunks.{length-chunks}
 use Rattle.fill.proofs.Parts.PartHalves.{width-pos, length-half}
 use Rattle.fill.proofs.Linking.Along.{Shown}
@@ -29,22 +30,17 @@ part-is d a v work e =
 pub length-part : (d a : ℕ) (work : List ℕ) → a + (width d + width d) ≤ length work → length (partAt d a work) ≡ width d + width d
 length-part d a work h = length-take-le (width d + width d) (drop a work) (omega (arith, length-drop a work))
 
-pub cand-is : (b : Bool) (d a v : ℕ) (work cand cand′ : List ℕ) → v ≡ width (d + 1)
-    → cand′ ≡ halfPart b d (take (a + (v + v) - a) (drop a work)) ++ drop (width d + width d) cand
-    → cand′ ≡ halfPart b d (partAt (suc d) a work) ++ drop (width d + width d) cand
-cand-is b d a v work cand cand′ p e = e ∙ ap (λ (y : List ℕ). halfPart b d y ++ drop (width d + width d) cand) (part-is d a v work p)
-
-pub half-is : (b : Bool) (d a v w : ℕ) (work cand cand′ : List ℕ) → v ≡ width (d + 1) → w ≡ width d
+-- what lies at the front of the candidate's buffer, where a half was taken to it
+pub half-is : (b : Bool) (d a v s : ℕ) (work part part′ : List ℕ) → v ≡ width (d + 1) → s ≡ width d + width d
     → a + (width (suc d) + width (suc d)) ≤ length work
-    → cand′ ≡ halfPart b d (take (a + (v + v) - a) (drop a work)) ++ drop (width d + width d) cand
-    → take (w + w - 0) cand′ ≡ halfPart b d (partAt (suc d) a work)
-half-is b d a v w work cand cand′ p q h e =
-    let n : w + w - 0 ≡ width d + width d = omega arith in
+    → part′ ≡ halfPart b d (take (a + (v + v) - a) (drop a work)) ++ drop (width d + width d) part
+    → take s part′ ≡ halfPart b d (partAt (suc d) a work)
+half-is b d a v s work part part′ p q h e =
     let x = halfPart b d (partAt (suc d) a work) in
-    ap₂ take n (cand-is b d a v work cand cand′ p e)
-    ∙ take-at x (drop (width d + width d) cand) (width d + width d) (length-half b d (partAt (suc d) a work) (length-part (suc d) a work h))
+    ap (take s) (e ∙ ap (λ (y : List ℕ). halfPart b d y ++ drop (width d + width d) part) (part-is d a v work p))
+    ∙ take-at x (drop (width d + width d) part) s (length-half b d (partAt (suc d) a work) (length-part (suc d) a work h) ∙ sym q)
 
--- a candidate is placed in a region of n bytes that is lent: R is the region when it is back
+-- a candidate is linked in a region of n bytes that is lent: R is the region when it is back
 region-back : (work x : List ℕ) (to n m : ℕ) → length x ≡ m → m ≤ n → to + n ≤ length work
     → take to work ++ ((x ++ drop m (take n (drop to work))) ++ drop n (drop to work)) ≡ splice work to x
 unfolding splice
@@ -59,52 +55,52 @@ region-back work x to n m e h i =
     ∙ drop-drop m to work
     ∙ ap (λ (y : ℕ). drop (to + y) work) (sym e)))
 
-module _ (d k to : ℕ) (f work : List ℕ) (long : length f ≡ width d + width d) (room : (k + 1) * (width d + width d) ≤ 4096)
-    (in-work : to + 4096 ≤ length work) where
+module _ (d k to : ℕ) (f work : List ℕ) (long : length f ≡ width d + width d) (room : (k + 1) * (width d + width d) ≤ regionSize)
+    (in-work : to + regionSize ≤ length work) where
   among-long : Long (width d + width d) (partsAt d k to work)
   among-long = long-chunks (width d + width d) k (drop to work) (omega (arith, length-drop to work))
 
   grown : Grown (width d + width d) 1 (partsAt d k to work) (candidatePart (width d) f (partsAt d k to work) .parts)
   grown = candidate-grown (width d) f (partsAt d k to work) long among-long
 
-  placed-core : (l entries link : ℕ) (region after : List ℕ)
-      → Shown (width d + width d) (take 4096 (drop to work)) (candidatePart (width d) f (partsAt d k to work)) entries link region
-      → after ≡ splice (take to work ++ (region ++ drop 4096 (drop to work))) l (link % 256 ∷ link / 256 % 256 ∷ [])
+  linked-core : (l entries link : ℕ) (region after : List ℕ)
+      → Shown (width d + width d) (take regionSize (drop to work)) (candidatePart (width d) f (partsAt d k to work)) entries link region
+      → after ≡ splice (take to work ++ (region ++ drop regionSize (drop to work))) l (link % 256 ∷ link / 256 % 256 ∷ [])
       → (entries ≡ length (levelParts (width d) (partsAt d k to work) (f ∷ []) .parts))
       × (after ≡ written (levelParts (width d) (partsAt d k to work) (f ∷ [])) to l work)
   unfolding levelParts written
-  placed-core l entries link region after h e =
+  linked-core l entries link region after h e =
       let s = width d + width d in
       let p = candidatePart (width d) f (partsAt d k to work) in
       let c : length (p .parts) ≤ k + 1 = omega (arith, grown, length-chunks s k (drop to work)) in
-      let m : length (p .parts) * s ≤ 4096 = omega (arith, mul-le-mul-right s c) in (
+      let m : length (p .parts) * s ≤ regionSize = omega (arith, mul-le-mul-right s c) in (
         h .0,
         e
-            ∙ ap₂ (λ (y : List ℕ) (n : ℕ). splice (take to work ++ (y ++ drop 4096 (drop to work))) l (n % 256 ∷ n / 256 % 256 ∷ [])) (h .1 .1) (h .1 .0)
+            ∙ ap₂ (λ (y : List ℕ) (n : ℕ). splice (take to work ++ (y ++ drop regionSize (drop to work))) l (n % 256 ∷ n / 256 % 256 ∷ [])) (h .1 .1) (h .1 .0)
             ∙ ap (λ (y : List ℕ). splice y l (linkNumber (p .link) % 256 ∷ linkNumber (p .link) / 256 % 256 ∷ []))
-            (region-back work (flat (p .parts)) to 4096 (length (p .parts) * s) (length-flat s (p .parts) (grown .0)) m in-work),
+            (region-back work (flat (p .parts)) to regionSize (length (p .parts) * s) (length-flat s (p .parts) (grown .0)) m in-work),
       )
 
-  -- the same, from what code computes: w bytes of values, n bytes lent, g the candidate
-  pub placed-half : (w n l entries link : ℕ) (g region after : List ℕ) → w ≡ width d → n ≡ 4096 → g ≡ f
-      → Shown (w + w) (take n (drop to work)) (candidatePart w g (chunks (w + w) k (take n (drop to work)))) entries link region
+  -- the same, from what code computes: w bytes of values, n bytes lent
+  pub linked-part : (w n l entries link : ℕ) (region after : List ℕ) → w ≡ width d → n ≡ regionSize
+      → Shown (w + w) (take n (drop to work)) (candidatePart w f (chunks (w + w) k (take n (drop to work)))) entries link region
       → after ≡ splice (take to work ++ (region ++ drop n (drop to work))) l (link % 256 ∷ link / 256 % 256 ∷ [])
       → (entries ≡ length (levelParts (width d) (partsAt d k to work) (f ∷ []) .parts))
       × (after ≡ written (levelParts (width d) (partsAt d k to work) (f ∷ [])) to l work)
-  placed-half w n l entries link g region after p q r h e =
+  linked-part w n l entries link region after p q h e =
       let s = width d + width d in
-      let a : Shown s (take 4096 (drop to work)) (candidatePart (width d) f (chunks s k (take 4096 (drop to work)))) entries link region =
-      subst₃ (λ (w n : ℕ) (g : List ℕ).
-      Shown (w + w) (take n (drop to work)) (candidatePart w g (chunks (w + w) k (take n (drop to work)))) entries link region) p q r h in
-      placed-core l entries link region after
-      (subst (λ (y : List (List ℕ)). Shown s (take 4096 (drop to work)) (candidatePart (width d) f y) entries link region)
-      (chunks-take s k 4096 (drop to work) (omega arith)) a)
+      let a : Shown s (take regionSize (drop to work)) (candidatePart (width d) f (chunks s k (take regionSize (drop to work)))) entries link region =
+      subst₂ (λ (w n : ℕ). Shown (w + w) (take n (drop to work)) (candidatePart w f (chunks (w + w) k (take n (drop to work)))) entries link region)
+      p q h in
+      linked-core l entries link region after
+      (subst (λ (y : List (List ℕ)). Shown s (take regionSize (drop to work)) (candidatePart (width d) f y) entries link region)
+      (chunks-take s k regionSize (drop to work) (omega arith)) a)
       (e ∙ ap (λ (y : ℕ). splice (take to work ++ (region ++ drop y (drop to work))) l (link % 256 ∷ link / 256 % 256 ∷ [])) q)
 
--- what placing asks
-pub placed-asks : (d k to w n : ℕ) (g work : List ℕ) → w ≡ width d → n ≡ 4096 → length g ≡ width d + width d
-    → (k + 1) * (width d + width d) ≤ 4096 → to + 4096 ≤ length work
+-- what linking asks
+pub linked-asks : (d k to w n : ℕ) (g work : List ℕ) → w ≡ width d → n ≡ regionSize → length g ≡ width d + width d
+    → (k + 1) * (width d + width d) ≤ regionSize → to + regionSize ≤ length work
     → (0 < w) × ((length g ≡ w + w) × ((k + 1) * (w + w) ≤ length (take n (drop to work))))
-placed-asks d k to w n g work p q h r i =
-    let s : (k + 1) * (w + w) ≤ 4096 = subst (λ (y : ℕ). (k + 1) * (y + y) ≤ 4096) (sym p) r in
+linked-asks d k to w n g work p q h r i =
+    let s : (k + 1) * (w + w) ≤ regionSize = subst (λ (y : ℕ). (k + 1) * (y + y) ≤ regionSize) (sym p) r in
     (omega (arith, width-pos d), (omega arith, omega (arith, length-take-le n (drop to work) (omega (arith, length-drop to work)))))

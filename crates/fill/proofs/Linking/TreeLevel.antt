@@ -11,9 +11,10 @@ use lib.Seq.{take-at, drop-at}
 use Rattle.diagram.specs.Tree.{Tree}
 use Rattle.diagram.specs.Fill.{Row, always, agree, Linked, Level, along, candidate, level}
 use Rattle.diagram.proofs.Bools.{split}
-use Rattle.fill.specs.Pack.{width, encode, store}
-use Rattle.fill.specs.Parts.{LinkedPart, LevelParts, afterPart, alongParts, candidatePart, levelParts, chunks, flat}
-use Rattle.fill.proofs.Reorder.Pack.{encode-length}
+use Rattle.reorder.specs.Sizes.{width}
+use Rattle.reorder.specs.inner.Pack.{encode}
+use Rattle.fill.specs.inner.Parts.{LinkedPart, LevelParts, afterPart, alongParts, candidatePart, levelParts, chunks, flat}
+use Rattle.reorder.proofs.Pack.{encode-length}
 use Rattle.fill.proofs.Parts.TreeTests.{always-bytes, agree-bytes, merge-bytes}
 
 -- what one candidate leaves, and what a level does, with the entries as parts
@@ -50,23 +51,3 @@ level-bytes gs (f ∷ fs) =
     rw (candidate-bytes f gs)
     (ap {B = LevelParts} (λ l. record { parts = l .parts; links = candidate true f gs .link ∷ l .links })
     (level-bytes (candidate true f gs .entries) fs))
-
--- entries one after the other
-
-pub flat-store : {d : ℕ} (ts : List (Tree Row d)) → flat (map encode ts) ≡ store ts
-flat-store [] = refl
-flat-store (t ∷ ts) = ap (λ (l : List ℕ). encode t ++ l) (flat-store ts)
-
-pub store-length : {d : ℕ} (ts : List (Tree Row d)) → length (store ts) ≡ length ts * (width d + width d)
-store-length [] = omega arith
-store-length (t ∷ ts) = omega (arith, length-append (encode t) (store ts), encode-length t, store-length ts)
-
-pub chunks-store : {d : ℕ} (ts : List (Tree Row d)) (rest : List ℕ)
-    → chunks (width d + width d) (length ts) (store ts ++ rest) ≡ map encode ts
-chunks-store [] rest = refl
-chunks-store {d} (t ∷ ts) rest =
-    let w = width d + width d in
-    ap (λ l. take w l ∷ chunks w (length ts) (drop w l)) (append-assoc (encode t) (store ts) rest)
-    ∙ ap₂ (λ x l. x ∷ chunks w (length ts) l) (take-at (encode t) (store ts ++ rest) w (encode-length t))
-    (drop-at (encode t) (store ts ++ rest) w (encode-length t))
-    ∙ ap (λ (l : List (List ℕ)). encode t ∷ l) (chunks-store ts rest)

@@ -9,9 +9,10 @@ use native.Mathlib.Omega.{arith}
 use lib.ListN.{length, take, drop}
 use Rattle.diagram.specs.Fill.{entry}
 use Rattle.diagram.proofs.Bools.{split}
-use Rattle.fill.specs.Parts.{agreePart, mergePart, linkNumber}
-use Rattle.fill.specs.Splice.{splice}
-use Rattle.fill.specs.Tried.{triedLink, triedPart}
+use Rattle.fill.specs.inner.Parts.{agreePart, mergePart}
+use Rattle.fill.specs.Work.{linkNumber}
+use Rattle.fill.specs.inner.Splice.{splice}
+use Rattle.fill.specs.inner.Tried.{triedLink, triedPart}
 use Rattle.fill.proofs.Parts.PartMerge.{length-merge}
 use Rattle.fill.proofs.Buffers.Splice.{put-back, splice-same}
 

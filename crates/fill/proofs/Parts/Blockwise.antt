@@ -10,7 +10,7 @@ use lib.Dec.{T, eqb, eqb→eq, eqb-refl}
 use lib.Pow.{high, low, pow-pos}
 use Rattle.diagram.specs.Lists.{digit, flip}
 use Rattle.diagram.proofs.Bools.{and-T, and-l, and-r, both-ways, beq→eq}
-use Rattle.fill.specs.Bytes.{alwaysByte, agreeByte, mergeByte}
+use Rattle.fill.specs.inner.Bytes.{alwaysByte, agreeByte, mergeByte}
 
 -- two numbers are equal when their high parts are, and their low parts
 eqb-block : (k a b r s : ℕ) → r < 2 ^ k → s < 2 ^ k → eqb (a * 2 ^ k + r) (b * 2 ^ k + s) ≡ (eqb r s && eqb a b)

@@ -7,17 +7,18 @@ use Prim.Native.Nat.{ℕ, zero, suc, _+_, _*_, _-_, _/_, _%_, _^_, _≤_, _<_}
 use native.Mathlib.Nat.{one-mul, zero-mul, div-one, le-of-suc-le-suc, not-suc-le-zero}
 use native.Mathlib.Omega.{arith}
 use borrow.Author.Tests.{lt-ltb, le-ltb, ltb-true, ltb-false}
-use lib.Dec.{ltb, lit<}
+use lib.Bits.{bitAnd, and-mask}
+use lib.Dec.{ltb, lit<, lit≤}
 use lib.ListN.{length, getD, set, take, drop, length-drop, length-append}
 use lib.Seq.{take-take, drop-drop, length-take-le, getD-take, getD-drop}
 use Rattle.diagram.specs.Lists.{digit}
 use Rattle.diagram.proofs.Bools.{split}
 use Rattle.diagram.proofs.Bits.{digit-part-le}
-use Rattle.fill.specs.Pack.{width}
-use Rattle.fill.specs.Parts.{halfPart}
-use Rattle.fill.specs.Splice.{splice}
+use Rattle.reorder.specs.Sizes.{width}
+use Rattle.fill.specs.inner.Parts.{halfByte, halfPart}
+use Rattle.fill.specs.inner.Splice.{splice}
 use Rattle.fill.proofs.Buffers.Splice.{drop-take, splice-two}
-use Rattle.fill.proofs.Reorder.Pack.{width-small, width-suc}
+use Rattle.reorder.proofs.Pack.{width-small, width-suc}
 
 width-pos-step : (b : Bool) (n : ℕ) → 0 < n → 0 < cond b 1 (n + n)
 width-pos-step true n h = lit< tt
@@ -30,24 +31,45 @@ width-pos (suc d) = width-pos-step (ltb d 3) (width d) (width-pos d)
 
 -- bits
 
--- what a byte of 2 ^ suc d rows holds of half b
-abbrev bits : Bool → ℕ → ℕ → ℕ
-bits b d x = x / 2 ^ (digit b * 2 ^ d) % 2 ^ (2 ^ d)
+-- the rows of d variables, where a byte holds as many twice, and as ones
 
-pub bits-high : (b : Bool) (d m x : ℕ) → m ≡ 2 ^ (2 ^ d) → b ≡ true → x / m % m ≡ bits b d x
-bits-high b d m x e t =
-    rw t (ap (λ (n : ℕ). x / n % n) e ∙ ap (λ (n : ℕ). x / 2 ^ n % 2 ^ (2 ^ d)) (sym (one-mul (2 ^ d))))
+pub shift-small : (d : ℕ) → d < 3 → 1 * 2 ^ d % 18446744073709551616 < 8
+shift-small zero h = lit< tt
+shift-small (suc zero) h = lit< tt
+shift-small (suc (suc zero)) h = lit< tt
+shift-small (suc (suc (suc d))) h = absurd (omega arith)
 
-pub bits-low : (b : Bool) (d m x : ℕ) → m ≡ 2 ^ (2 ^ d) → b ≡ false → x % m ≡ bits b d x
-bits-low b d m x e t =
-    rw t (ap₂ _%_ (sym (div-one x)) e ∙ ap (λ (n : ℕ). x / 2 ^ n % 2 ^ (2 ^ d)) (sym (zero-mul (2 ^ d))))
+pub mask-some : (d : ℕ) → d < 3 → 1 ≤ 1 * 2 ^ (1 * 2 ^ d % 18446744073709551616) % 256
+mask-some zero h = lit≤ tt
+mask-some (suc zero) h = lit≤ tt
+mask-some (suc (suc zero)) h = lit≤ tt
+mask-some (suc (suc (suc d))) h = absurd (omega arith)
+
+pub mask-shifted : (d : ℕ) → d < 3 → 1 * 2 ^ (1 * 2 ^ d % 18446744073709551616) % 256 - 1 ≡ 2 ^ (2 ^ d) - 1
+mask-shifted zero h = refl
+mask-shifted (suc zero) h = refl
+mask-shifted (suc (suc zero)) h = refl
+mask-shifted (suc (suc (suc d))) h = absurd (omega arith)
+
+-- half b by a shift and a mask
+pub bits-high : (b : Bool) (d k m x : ℕ) → k ≡ 2 ^ d → m ≡ 2 ^ (2 ^ d) - 1 → b ≡ true → bitAnd (x / 2 ^ k) m ≡ halfByte b d x
+bits-high b d k m x e q t =
+    rw t
+    (ap₂ (λ (i n : ℕ). bitAnd (x / 2 ^ i) n) e q ∙ and-mask (x / 2 ^ (2 ^ d)) (2 ^ d)
+    ∙ ap (λ (n : ℕ). x / 2 ^ n % 2 ^ (2 ^ d)) (sym (one-mul (2 ^ d))))
+
+pub bits-low : (b : Bool) (d m x : ℕ) → m ≡ 2 ^ (2 ^ d) - 1 → b ≡ false → bitAnd x m ≡ halfByte b d x
+bits-low b d m x q t =
+    rw t
+    (ap (bitAnd x) q ∙ and-mask x (2 ^ d) ∙ ap (λ (n : ℕ). n % 2 ^ (2 ^ d)) (sym (div-one x))
+    ∙ ap (λ (n : ℕ). x / 2 ^ n % 2 ^ (2 ^ d)) (sym (zero-mul (2 ^ d))))
 
 -- below a byte a half has a byte of values and a byte of care
-half-bits : (b : Bool) (d : ℕ) (part : List ℕ) → d < 3 → halfPart b d part ≡ bits b d (getD part 0 0) ∷ bits b d (getD part 1 0) ∷ []
+half-bits : (b : Bool) (d : ℕ) (part : List ℕ) → d < 3 → halfPart b d part ≡ halfByte b d (getD part 0 0) ∷ halfByte b d (getD part 1 0) ∷ []
 unfolding halfPart
 half-bits b d part h =
     let e = lt-ltb d 3 h in
-    rw e (ap₂ (λ (x y : ℕ). bits b d x ∷ bits b d y ∷ []) (getD-take 1 part 0 0 (lit< tt)) (getD-drop 1 part 0 0))
+    rw e (ap₂ (λ (x y : ℕ). halfByte b d x ∷ halfByte b d y ∷ []) (getD-take 1 part 0 0 (lit< tt)) (getD-drop 1 part 0 0))
 
 set-two : (l : List ℕ) (x y : ℕ) → 2 ≤ length l → set (set l 0 x) 1 y ≡ x ∷ y ∷ drop 2 l
 set-two [] x y h = absurd (not-suc-le-zero h)
@@ -55,7 +77,7 @@ set-two (a ∷ []) x y h = absurd (not-suc-le-zero (le-of-suc-le-suc h))
 set-two (a ∷ b ∷ l) x y h = refl
 
 pub bits-taken : (b : Bool) (d : ℕ) (part l : List ℕ) (x y : ℕ) → d < 3 → width d + width d ≤ length l
-    → x ≡ bits b d (getD part 0 0) → y ≡ bits b d (getD part 1 0)
+    → x ≡ halfByte b d (getD part 0 0) → y ≡ halfByte b d (getD part 1 0)
     → set (set l 0 x) 1 y ≡ halfPart b d part ++ drop (width d + width d) l
 bits-taken b d part l x y h r p q =
     let w = width-small d (omega arith) in

@@ -10,9 +10,9 @@ use lib.ListN.{length, getD, set, drop, drop-of-length-le, length-append}
 use lib.Seq.{take-at}
 use Rattle.diagram.specs.Lists.{upTo}
 use Rattle.diagram.proofs.UpTo.{map-upTo-more, length-map-upTo}
-use Rattle.fill.specs.Bytes.{mergeByte}
-use Rattle.fill.specs.Parts.{mergePart, valueByte, careByte}
-use Rattle.fill.specs.Splice.{splice}
+use Rattle.fill.specs.inner.Bytes.{mergeByte}
+use Rattle.fill.specs.inner.Parts.{mergePart, valueByte, careByte}
+use Rattle.fill.specs.inner.Splice.{splice}
 use Rattle.fill.proofs.Buffers.Splice.{length-splice, splice-none, getD-before, getD-behind, set-end, set-before}
 
 -- without inversion the exclusive or with 0 falls away

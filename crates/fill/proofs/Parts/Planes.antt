@@ -5,18 +5,17 @@ use mathlib.Core.Path.{_≡_, sym, ap, ap₂, _∙_}
 use mathlib.Core.Bool.{Bool, _&&_, and-true}
 use mathlib.Core.List.{List, [], _∷_, _++_, map}
 use Prim.Native.Nat.{ℕ, zero, suc, _+_, _≤_, _<_, zero-le}
-use lib.Dec.{ltb, ltb→lt, nltb→le}
 use lib.ListN.{getD, List·getD-append}
 use lib.Seq.{getD-append-add}
 use Rattle.diagram.specs.Lists.{all, upTo}
 use Rattle.diagram.specs.Tree.{Tree, leaf, node}
 use Rattle.diagram.specs.Fill.{Row}
-use Rattle.diagram.proofs.Bools.{split, to-T, to-not}
 use Rattle.diagram.proofs.UpTo.{map-upTo-cong, map-upTo-add}
 use Rattle.diagram.proofs.Lists.{all-append-and}
-use Rattle.fill.specs.Pack.{width, num, pack, encode}
-use Rattle.fill.specs.Parts.{valueByte, careByte}
-use Rattle.fill.proofs.Reorder.Pack.{width-small, width-suc, pack-small, pack-node, pack-length, value-byte, care-byte}
+use Rattle.reorder.specs.Sizes.{width}
+use Rattle.reorder.specs.inner.Pack.{num, pack, encode}
+use Rattle.fill.specs.inner.Parts.{valueByte, careByte}
+use Rattle.reorder.proofs.Pack.{width-small, width-suc, by-width, pack-small, pack-node, pack-length}
 
 -- byte j of a longer plane is a byte of its low half or of its high half
 
@@ -28,9 +27,13 @@ pub node-high : {A : Type 0} (p : A → Bool) {d : ℕ} (l h : Tree A d) → 3 �
     → getD (pack p (node l h)) (width d + j) 0 ≡ getD (pack p h) j 0
 node-high p l h k j = rw (pack-node p l h k, ← pack-length p l) (getD-append-add (pack p l) (pack p h) j 0)
 
--- one variable more makes one byte, or two halves
-pub by-width : {X : Type 0} (d : ℕ) → (suc d ≤ 3 → X) → (3 ≤ d → X) → X
-by-width d f g = split (ltb d 3) (λ e. f (ltb→lt d 3 (to-T e))) (λ e. g (nltb→le d 3 (to-not e)))
+-- what is read from a part is a byte of its plane of values, or of its plane of care
+
+value-byte : {d : ℕ} (t : Tree Row d) (j : ℕ) → j < width d → valueByte (encode t) j ≡ getD (pack (λ r. r .value) t) j 0
+value-byte t j h = List·getD-append (pack (λ r. r .value) t) (pack (λ r. r .care) t) 0 j (rw (pack-length (λ r. r .value) t) h)
+
+care-byte : {d : ℕ} (t : Tree Row d) (j : ℕ) → careByte (width d) (encode t) j ≡ getD (pack (λ r. r .care) t) j 0
+care-byte t j = rw (← pack-length (λ r. r .value) t) (getD-append-add (pack (λ r. r .value) t) (pack (λ r. r .care) t) j 0)
 
 module _ {B : Type 0} (Q : ℕ → ℕ → ℕ → ℕ → B) where
   -- the operation at each byte of the parts of f and g: of f's values and care, and g's

@@ -14,10 +14,11 @@ use Rattle.diagram.specs.Lists.{digit}
 use Rattle.diagram.specs.Tree.{Tree, node, half, halves}
 use Rattle.diagram.specs.Fill.{Row}
 use Rattle.diagram.proofs.Bools.{of-T, of-not}
-use Rattle.fill.specs.Pack.{width, num, pack, encode}
-use Rattle.fill.specs.Parts.{halfBytes, halfPart, halfParts}
-use Rattle.fill.proofs.Reorder.Pack.{pack-small, pack-length, num-lt}
-use Rattle.fill.proofs.Parts.Planes.{by-width}
+use Rattle.reorder.specs.Sizes.{width}
+use Rattle.reorder.specs.inner.Pack.{num, pack, encode}
+use Rattle.fill.specs.inner.Parts.{halfBytes, halfPart, halfParts}
+use Rattle.reorder.proofs.Pack.{pack-small, pack-length, num-lt}
+use Rattle.reorder.proofs.Pack.{by-width}
 
 module _ {A : Type 0} (p : A → Bool) where
   -- the rows of a half, out of the number of all rows

@@ -9,10 +9,11 @@ use Rattle.diagram.specs.Lists.{upTo}
 use Rattle.diagram.specs.Tree.{Tree, leaf, node}
 use Rattle.diagram.specs.Fill.{Row, always, agree, merge}
 use Rattle.diagram.proofs.Lists.{all-mapped}
-use Rattle.fill.specs.Bytes.{alwaysByte, agreeByte, mergeByte}
-use Rattle.fill.specs.Pack.{width, num, encode}
-use Rattle.fill.specs.Parts.{valueByte, careByte, alwaysPart, agreePart, mergePart}
-use Rattle.fill.proofs.Reorder.Pack.{num-lt}
+use Rattle.fill.specs.inner.Bytes.{alwaysByte, agreeByte, mergeByte}
+use Rattle.reorder.specs.Sizes.{width}
+use Rattle.reorder.specs.inner.Pack.{num, encode}
+use Rattle.fill.specs.inner.Parts.{valueByte, careByte, alwaysPart, agreePart, mergePart}
+use Rattle.reorder.proofs.Pack.{num-lt}
 use Rattle.fill.proofs.Parts.Blockwise.{always-block, agree-block, merge-block, always-digit, agree-digit, merge-digit, or-digit}
 use Rattle.fill.proofs.Parts.Planes.{tested, made}
 

@@ -15,10 +15,12 @@ use Rattle.diagram.specs.Tree.{Tree, halves}
 use Rattle.diagram.specs.Fill.{Row}
 use Rattle.diagram.proofs.Bools.{split, and-T}
 use Rattle.diagram.proofs.Tree.{length-halves}
-use Rattle.fill.specs.Pack.{width, encode}
-use Rattle.fill.specs.Parts.{LevelParts}
-use Rattle.fill.specs.Descent.{levelBelow, roomy}
-use Rattle.fill.proofs.Reorder.Pack.{width-small, width-suc, width-rows}
+use Rattle.fill.specs.Work.{regionSize}
+use Rattle.reorder.specs.Sizes.{width}
+use Rattle.reorder.specs.inner.Pack.{encode}
+use Rattle.fill.specs.inner.Parts.{LevelParts}
+use Rattle.fill.specs.inner.Descent.{levelBelow, roomy}
+use Rattle.reorder.proofs.Pack.{width-small, width-suc, width-rows}
 use Rattle.fill.proofs.Room.EntriesRoom.{entries-candidates, entries-most, entries-none}
 use Rattle.fill.proofs.Descents.TreeDescent.{entriesOf, partsOf, below-bytes}
 
@@ -46,8 +48,8 @@ few-entries d fs h =
 -- a level's entries, and two each of the next, in a region
 
 fits-here : (d : ℕ) (fs : List (Tree Row (suc d))) → Rows fs
-    → (length (entriesOf fs) * (width (suc d) + width (suc d)) ≤ 4096)
-    × ((length (entriesOf fs) + length (entriesOf fs)) * (width d + width d) ≤ 4096)
+    → (length (entriesOf fs) * (width (suc d) + width (suc d)) ≤ regionSize)
+    × ((length (entriesOf fs) + length (entriesOf fs)) * (width d + width d) ≤ regionSize)
 fits-here d fs h =
     split (leb (suc d) 3)
     (λ t. let s = leb-true (suc d) 3 t in
@@ -68,11 +70,11 @@ roomy-filled zero fs h = rw (length-map (entriesOf fs) encode, entries-none true
 roomy-filled (suc d) fs h =
     let k = length (partsOf fs) in
     let e : length (entriesOf fs) ≡ k = sym (length-map (entriesOf fs) encode) in
-    let r = subst (λ (n : ℕ). (n * (width (suc d) + width (suc d)) ≤ 4096) × ((n + n) * (width d + width d) ≤ 4096)) e (fits-here d fs h) in
+    let r = subst (λ (n : ℕ). (n * (width (suc d) + width (suc d)) ≤ regionSize) × ((n + n) * (width d + width d) ≤ regionSize)) e (fits-here d fs h) in
     let more : T (roomy d (levelBelow d (partsOf fs) .parts)) =
     subst (λ (l : LevelParts). T (roomy d (l .parts))) (sym (below-bytes (entriesOf fs))) (roomy-filled d (halves (entriesOf fs)) (rows-next fs h)) in
-    let a = leb (k * (width (suc d) + width (suc d))) 4096 in
-    let b = leb ((k + k) * (width d + width d)) 4096 in
+    let a = leb (k * (width (suc d) + width (suc d))) regionSize in
+    let b = leb ((k + k) * (width d + width d)) regionSize in
     let c = roomy d (levelBelow d (partsOf fs) .parts) in
-    and-T a (b && c) (le→leb (k * (width (suc d) + width (suc d))) 4096 (r .0))
-    (and-T b c (le→leb ((k + k) * (width d + width d)) 4096 (r .1)) more)
+    and-T a (b && c) (le→leb (k * (width (suc d) + width (suc d))) regionSize (r .0))
+    (and-T b c (le→leb ((k + k) * (width d + width d)) regionSize (r .1)) more)
