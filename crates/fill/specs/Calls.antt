@@ -6,6 +6,7 @@ use Prim.Native.Nat.{ℕ, zero, suc}
 use lib.Dec.{leb}
 use lib.ListN.{length, getD}
 use Rattle.diagram.specs.Lists.{upTo}
+use Rattle.diagram.specs.Bound.{mostVariables}
 use Rattle.diagram.specs.Tree.{Tree, halves}
 use Rattle.diagram.specs.Fill.{Row, level, trace}
 use Rattle.diagram.specs.Network.{counts}
@@ -47,18 +48,18 @@ unfoldable pub entryCounts : (d : ℕ) → List (Tree Row d) → List ℕ
 entryCounts zero fs = []
 entryCounts (suc d) fs = length (level true [] fs .entries) ∷ entryCounts d (halves (level true [] fs .entries))
 
--- a list as ten numbers, with zeros past its end
-abbrev pub tenOf : List ℕ → List ℕ
-tenOf xs = map (λ k. getD xs k 0) (upTo 10)
+-- a list as an array with a number for each level, and zeros past its end
+abbrev pub perLevel : List ℕ → List ℕ
+perLevel xs = map (λ k. getD xs k 0) (upTo mostVariables)
 
 -- the answer of a count, with the entries and the cells of each level where it is a success
 unfoldable pub levelsOf : State → List ℕ → List ℕ → List ℕ → Levels
 levelsOf s values care work =
     record {
       answer = countAnswer s values care work;
-      entries = tenOf (cond (done (countAnswer s values care work)) (entryCounts (s .n) (drawnOutputs s values care)) []);
+      entries = perLevel (cond (done (countAnswer s values care work)) (entryCounts (s .n) (drawnOutputs s values care)) []);
       counts =
-          tenOf
+          perLevel
           (cond (done (countAnswer s values care work))
           (counts true (s .n) (filled true (heldTable s values care) (orderOf s))) []);
     }

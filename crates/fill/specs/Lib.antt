@@ -1,12 +1,3 @@
-pub mod Bytes
-pub mod Pack
-pub mod Parts
 pub mod Work
-pub mod Splice
-pub mod Tried
-pub mod Level
-pub mod Gather
-pub mod Descent
-pub mod Counts
 pub mod Calls
-pub mod Filling
+pub mod inner

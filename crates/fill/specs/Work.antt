@@ -2,21 +2,26 @@
 -- Assumes nothing.
 use mathlib.Core.Bool.{cond}
 use mathlib.Core.List.{List, [], _∷_, _++_}
-use Prim.Native.Nat.{ℕ, _+_, _-_, _/_, _%_}
+use Prim.Native.Nat.{ℕ, suc, _+_, _*_, _-_, _/_, _%_}
 use lib.Dec.{leb}
 use lib.ListN.{length, drop, replicate}
-use Rattle.diagram.specs.Fill.{Link}
-use Rattle.fill.specs.Parts.{linkNumber}
+use Rattle.diagram.specs.Lists.{digit}
+use Rattle.diagram.specs.Fill.{Link, const, entry}
 
--- the bytes of the work buffer that a call uses, of a region for one level's entries, and where the links begin
+-- the bytes of the work buffer that a call uses, of a region for one level's entries, and where the links begin: behind two regions
 unfoldable pub workSize : ℕ
 workSize = 32768
 
-unfoldable pub regionSize : ℕ
+abbrev pub regionSize : ℕ
 regionSize = 4096
 
 unfoldable pub linksAt : ℕ
-linksAt = 8192
+linksAt = 2 * regionSize
+
+-- a link as a number: 0 and 1 the constants, then two an entry, plain and inverted
+abbrev pub linkNumber : Link → ℕ
+linkNumber (const v) = digit v
+linkNumber (entry k i) = 2 * suc k + digit i
 
 -- links as 16-bit numbers, low byte first
 abbrev pub linkBytes : List Link → List ℕ

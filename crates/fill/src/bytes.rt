@@ -1,6 +1,6 @@
 // Eight rows at a time: the tests and the merge on bytes of values and care. f and c are a candidate's, g and d an entry's.
 ghost use mathlib.Core.Path.{_≡_};
-ghost use Rattle.fill.specs.Bytes.{alwaysByte, agreeByte, mergeByte};
+ghost use Rattle.fill.specs.inner.Bytes.{alwaysByte, agreeByte, mergeByte};
 
 // Whether f is v wherever c is 1.
 pub(crate) fn always_byte(v: bool, f: u8, c: u8) -> bool

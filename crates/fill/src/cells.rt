@@ -5,10 +5,12 @@ ghost use mathlib.Core.Path.{_≡_};
 ghost use mathlib.Core.List.{sum};
 ghost use Prim.Native.Nat.{_+_, _*_, _≤_};
 ghost use lib.ListN.{length, take};
-ghost use Rattle.fill.specs.Calls.{tenOf};
-ghost use Rattle.fill.specs.Counts.{pairDiffers, differingPairs, countsAt, linksEnd};
+ghost use Rattle.diagram.specs.Bound.{mostVariables, mostOutputs};
+ghost use Rattle.fill.specs.Work.{linksAt};
+ghost use Rattle.fill.specs.Calls.{perLevel};
+ghost use Rattle.fill.specs.inner.Counts.{pairDiffers, differingPairs, countsAt, linksEnd};
 
-// Whether the two links at place a differ.
+// Whether the two links at byte a differ.
 pub(crate) fn pair_differs(work: &[u8], a: usize) -> bool
     requires { ⌜ a + 4 ≤ length (now work) ⌝ }
     ensures { λ r. ⌜ r ≡ pairDiffers (now (work .entry)) a ⌝ }
@@ -19,7 +21,7 @@ pub(crate) fn pair_differs(work: &[u8], a: usize) -> bool
     work[a + 1] != work[a + 3]
 }
 
-// How many entries have two links that differ, the first's at place at.
+// How many entries have two links that differ, the first's at byte at.
 pub(crate) fn differing_pairs(work: &[u8], at: usize, pairs: usize) -> usize
     requires { ⌜ at + 4 * pairs ≤ length (now work) ⌝ }
     ensures { λ r. ⌜ r ≡ differingPairs (now (work .entry)) at pairs ⌝ }
@@ -42,8 +44,8 @@ pub(crate) fn level_counts(
     entries: [usize; VARIABLES],
     work: &[u8],
 ) -> [usize; VARIABLES]
-    requires { ⌜ (n ≤ 10) × (m ≤ 16) × (linksEnd (8192 + 2 * m) (take n entries) ≤ length (now work)) ⌝ }
-    ensures { λ r. ⌜ r ≡ tenOf (countsAt (now (work .entry)) (8192 + 2 * m) (take n entries)) ⌝ }
+    requires { ⌜ (n ≤ mostVariables) × (m ≤ mostOutputs) × (linksEnd (linksAt + 2 * m) (take n entries) ≤ length (now work)) ⌝ }
+    ensures { λ r. ⌜ r ≡ perLevel (countsAt (now (work .entry)) (linksAt + 2 * m) (take n entries)) ⌝ }
 {
     let mut counts = [0usize; VARIABLES];
     let mut at = LINKS + 2 * m;
@@ -64,7 +66,7 @@ pub(crate) fn total(counts: [usize; VARIABLES]) -> usize
 {
     let mut cells = 0;
     let mut p = 0;
-    while p < 10 {
+    while p < VARIABLES {
         cells += counts[p];
         p += 1;
     }

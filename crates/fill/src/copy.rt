@@ -1,10 +1,10 @@
-// Copying bytes to a place in a slice.
+// Copying bytes into a slice.
 ghost use mathlib.Core.Path.{_≡_};
 ghost use Prim.Native.Nat.{_+_, _≤_};
 ghost use lib.ListN.{length};
-ghost use Rattle.fill.specs.Splice.{splice};
+ghost use Rattle.fill.specs.inner.Splice.{splice};
 
-// Copies all of x over as many bytes of l, from place k on.
+// Copies all of x over as many bytes of l, from byte k on.
 pub(crate) fn copy_to(x: &[u8], l: &mut [u8], k: usize)
     requires { ⌜ k + length (now x) ≤ length (now l) ⌝ }
     ensures { λ _. ⌜ now (l .exit) ≡ splice (now (l .entry)) k (now (x .entry)) ⌝ }

@@ -1,4 +1,4 @@
-// The way down: level after level the entries' halves are placed, their parts in two regions in turn, until no entry is left.
+// The way down: level after level the entries' halves are linked, their parts in two regions in turn, until no entry is left.
 use crate::REGION;
 use crate::level::level;
 use crate::outputs::zero;
@@ -9,14 +9,15 @@ ghost use mathlib.Core.List.{[], _++_};
 ghost use Prim.Native.Nat.{suc, _+_, _*_, _≤_, _<_};
 ghost use lib.Dec.{T};
 ghost use lib.ListN.{length, replicate};
-ghost use Rattle.fill.specs.Pack.{width};
-ghost use Rattle.fill.specs.Work.{linkBytes, allLinks};
-ghost use Rattle.fill.specs.Splice.{splice};
-ghost use Rattle.fill.specs.Level.{partsAt, written};
-ghost use Rattle.fill.specs.Calls.{tenOf};
-ghost use Rattle.fill.specs.Descent.{levelBelow, linksBelow, countsBelow, roomy, holding, linksUpTo};
+ghost use Rattle.diagram.specs.Bound.{mostVariables};
+ghost use Rattle.reorder.specs.Sizes.{width};
+ghost use Rattle.fill.specs.Work.{workSize, regionSize, linksAt, linkBytes, allLinks};
+ghost use Rattle.fill.specs.inner.Splice.{splice};
+ghost use Rattle.fill.specs.inner.Level.{partsAt, written};
+ghost use Rattle.fill.specs.Calls.{perLevel};
+ghost use Rattle.fill.specs.inner.Descent.{levelBelow, linksBelow, countsBelow, roomy, holding, linksUpTo};
 
-// One level: places the halves of the count parts at from among the entries at to, and makes the region at from zero again.
+// One level: links the halves of the count parts at from among the entries at to, and makes the region at from zero again.
 // Returns the number of entries.
 pub(crate) fn level_below(
     d: usize,
@@ -25,37 +26,29 @@ pub(crate) fn level_below(
     to: usize,
     links: usize,
     work: &mut [u8],
-    cand: &mut [u8],
 ) -> usize
-    requires { ⌜ d < 10 ⌝ }
-    requires { ⌜ (from + 4096 ≤ to) ⊎ (to + 4096 ≤ from) ⌝ }
-    requires { ⌜ (from + 4096 ≤ links) × (to + 4096 ≤ links) × (links + 4 * count ≤ length (now work)) ⌝ }
-    requires { ⌜ (count * (width (suc d) + width (suc d)) ≤ 4096) × ((count + count) * (width d + width d) ≤ 4096) ⌝ }
-    requires { ⌜ 256 ≤ length (now cand) ⌝ }
+    requires { ⌜ d < mostVariables ⌝ }
+    requires { ⌜ (from + regionSize ≤ to) ⊎ (to + regionSize ≤ from) ⌝ }
+    requires { ⌜ (from + regionSize ≤ links) × (to + regionSize ≤ links) × (links + 4 * count ≤ length (now work)) ⌝ }
+    requires { ⌜ (count * (width (suc d) + width (suc d)) ≤ regionSize) × ((count + count) * (width d + width d) ≤ regionSize) ⌝ }
     ensures entries { λ r. ⌜ r ≡ length (levelBelow d (partsAt (suc d) count from (now (work .entry))) .parts) ⌝ }
     ensures work { λ _. ⌜ now (work .exit)
         ≡ splice (written (levelBelow d (partsAt (suc d) count from (now (work .entry)))) to links (now (work .entry)))
-        from (replicate 4096 0) ⌝ }
+        from (replicate regionSize 0) ⌝ }
 {
-    let entries = level(d, from, count, to, links, work, cand);
+    let entries = level(d, from, count, to, links, work);
     zero(from, REGION, work);
     entries
 }
 
 // From the count entries of n variables in the first region down to none: their links go to links and behind it. Returns how many entries
 // each level has.
-pub(crate) fn descend(
-    n: usize,
-    count: usize,
-    links: usize,
-    work: &mut [u8],
-    cand: &mut [u8],
-) -> [usize; VARIABLES]
-    requires { ⌜ (n ≤ 10) × (8192 ≤ links) × (32768 ≤ length (now work)) × (256 ≤ length (now cand)) ⌝ }
+pub(crate) fn descend(n: usize, count: usize, links: usize, work: &mut [u8]) -> [usize; VARIABLES]
+    requires { ⌜ (n ≤ mostVariables) × (linksAt ≤ links) × (workSize ≤ length (now work)) ⌝ }
     requires { ⌜ now work ≡ holding 0 (partsAt n count 0 (now work)) (linksUpTo links (now work)) (now work) ⌝ }
     requires { ⌜ T (roomy n (partsAt n count 0 (now work))) ⌝ }
-    requires { ⌜ links + 2 * length (allLinks (linksBelow n (partsAt n count 0 (now work)))) ≤ 32768 ⌝ }
-    ensures entries { λ r. ⌜ r ≡ tenOf (countsBelow n (partsAt n count 0 (now (work .entry)))) ⌝ }
+    requires { ⌜ links + 2 * length (allLinks (linksBelow n (partsAt n count 0 (now work)))) ≤ workSize ⌝ }
+    ensures entries { λ r. ⌜ r ≡ perLevel (countsBelow n (partsAt n count 0 (now (work .entry)))) ⌝ }
     ensures work { λ _. ⌜ now (work .exit)
         ≡ holding 0 [] (linksUpTo links (now (work .entry)) ++ linkBytes (allLinks (linksBelow n (partsAt n count 0 (now (work .entry))))))
         (now (work .entry)) ⌝ }
@@ -69,7 +62,7 @@ pub(crate) fn descend(
         entries[n - d] = k;
         d -= 1;
         let to = REGION - from;
-        let next = level_below(d, from, k, to, at, work, cand);
+        let next = level_below(d, from, k, to, at, work);
         at += 4 * k;
         from = to;
         k = next;

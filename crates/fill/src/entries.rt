@@ -1,4 +1,4 @@
-// The entries of a level, their parts one after the other in a region: a candidate is placed in the first that agrees, or behind them all.
+// The entries of a level, their parts one after the other in a region: a candidate is merged into the first that agrees, or goes behind them all.
 use crate::copy::copy_to;
 use crate::part::agree;
 use crate::part::always;
@@ -7,9 +7,10 @@ ghost use mathlib.Core.Path.{_≡_};
 ghost use mathlib.Core.List.{_++_};
 ghost use Prim.Native.Nat.{_+_, _*_, _≤_, _<_};
 ghost use lib.ListN.{length, take, drop};
-ghost use Rattle.fill.specs.Parts.{alongParts, candidatePart, linkNumber, chunks, flat};
-ghost use Rattle.fill.specs.Splice.{splice};
-ghost use Rattle.fill.specs.Tried.{triedLink, triedPart};
+ghost use Rattle.fill.specs.inner.Parts.{alongParts, candidatePart, chunks, flat};
+ghost use Rattle.fill.specs.Work.{linkNumber};
+ghost use Rattle.fill.specs.inner.Splice.{splice};
+ghost use Rattle.fill.specs.inner.Tried.{triedLink, triedPart};
 
 // How many entries there are after a candidate, and the number of the candidate's link.
 pub(crate) struct Linked {
@@ -39,7 +40,7 @@ pub(crate) fn try_entry(w: usize, f: &[u8], region: &mut [u8], e: usize) -> usiz
     0
 }
 
-// Places the candidate f in the first of k entries that agrees, else behind them.
+// Links the candidate f to the first of k entries that agrees, else behind them.
 pub(crate) fn along(w: usize, f: &[u8], region: &mut [u8], k: usize) -> Linked
     requires { ⌜ 0 < w ⌝ }
     requires { ⌜ length (now f) ≡ w + w ⌝ }
@@ -69,7 +70,7 @@ pub(crate) fn along(w: usize, f: &[u8], region: &mut [u8], k: usize) -> Linked
     }
 }
 
-// Places the candidate f: as a constant where it is one, else along the k entries.
+// Links the candidate f: as a constant where it is one, else along the k entries.
 pub(crate) fn candidate(w: usize, f: &[u8], region: &mut [u8], k: usize) -> Linked
     requires { ⌜ 0 < w ⌝ }
     requires { ⌜ length (now f) ≡ w + w ⌝ }

@@ -1,48 +1,33 @@
 // The halves of a part: the rows in which its top variable is 0, and those in which it is 1. A half has d variables.
 use crate::copy::copy_to;
+use reorder::width::width_of;
 ghost use mathlib.Core.Path.{_≡_};
 ghost use mathlib.Core.List.{_++_};
-ghost use Prim.Native.Nat.{suc, _+_, _*_, _/_, _%_, _^_, _≤_, _<_};
+ghost use Prim.Native.Nat.{suc, _+_, _*_, _-_, _^_, _≤_, _<_};
 ghost use lib.ListN.{length, drop};
 ghost use Rattle.diagram.specs.Lists.{digit};
-ghost use Rattle.fill.specs.Pack.{width};
-ghost use Rattle.fill.specs.Parts.{halfPart};
+ghost use Rattle.diagram.specs.Bound.{mostVariables};
+ghost use Rattle.reorder.specs.Sizes.{width};
+ghost use Rattle.fill.specs.inner.Parts.{halfByte, halfPart};
 
-// How many bytes the rows of d variables take.
-pub(crate) fn width_of(d: usize) -> usize
-    requires { ⌜ d ≤ 10 ⌝ }
-    ensures { λ r. ⌜ r ≡ width d ⌝ }
-{
-    if d < 3 {
-        return 1;
-    }
-    1 << (d - 3)
-}
-
-// Two to the number of rows of d variables.
-pub(crate) fn modulus(d: usize) -> u8
+// The bits of the rows of d variables: 2 ^ d ones.
+pub(crate) fn row_mask(d: usize) -> u8
     requires { ⌜ d < 3 ⌝ }
-    ensures { λ r. ⌜ r ≡ 2 ^ (2 ^ d) ⌝ }
+    ensures { λ r. ⌜ r ≡ 2 ^ (2 ^ d) - 1 ⌝ }
 {
-    if d == 0 {
-        return 2;
-    }
-    if d == 1 {
-        return 4;
-    }
-    16
+    (1u8 << (1usize << d)) - 1
 }
 
 // Half b of a byte that holds both halves.
 pub(crate) fn half_byte(b: bool, d: usize, x: u8) -> u8
     requires { ⌜ d < 3 ⌝ }
-    ensures { λ r. ⌜ r ≡ x / 2 ^ (digit b * 2 ^ d) % 2 ^ (2 ^ d) ⌝ }
+    ensures { λ r. ⌜ r ≡ halfByte b d x ⌝ }
 {
-    let m = modulus(d);
+    let mask = row_mask(d);
     if b {
-        return x / m % m;
+        return x >> (1usize << d) & mask;
     }
-    x % m
+    x & mask
 }
 
 // Half b of a part below a byte: its bits.
@@ -69,7 +54,7 @@ pub(crate) fn where_true(b: bool, n: usize) -> usize
 // Half b of a part of whole bytes: those of its values, and those of its care.
 pub(crate) fn take_bytes(b: bool, d: usize, part: &[u8], cand: &mut [u8])
     requires { ⌜ 3 ≤ d ⌝ }
-    requires { ⌜ d < 10 ⌝ }
+    requires { ⌜ d < mostVariables ⌝ }
     requires { ⌜ length (now part) ≡ width (suc d) + width (suc d) ⌝ }
     requires { ⌜ width d + width d ≤ length (now cand) ⌝ }
     ensures { λ _. ⌜ now (cand .exit) ≡ halfPart b d (now (part .entry)) ++ drop (width d + width d) (now (cand .entry)) ⌝ }
@@ -85,7 +70,7 @@ pub(crate) fn take_bytes(b: bool, d: usize, part: &[u8], cand: &mut [u8])
 
 // Half b of a part, to the front of cand.
 pub(crate) fn take_half(b: bool, d: usize, part: &[u8], cand: &mut [u8])
-    requires { ⌜ d < 10 ⌝ }
+    requires { ⌜ d < mostVariables ⌝ }
     requires { ⌜ length (now part) ≡ width (suc d) + width (suc d) ⌝ }
     requires { ⌜ width d + width d ≤ length (now cand) ⌝ }
     ensures { λ _. ⌜ now (cand .exit) ≡ halfPart b d (now (part .entry)) ++ drop (width d + width d) (now (cand .entry)) ⌝ }

@@ -1,29 +1,20 @@
 // One level: the halves of the entries' parts are the candidates of the next level, whose entries' parts go to a region of their own.
-use crate::REGION;
-use crate::entries::candidate;
 use crate::halves::take_half;
-use crate::halves::width_of;
+use crate::link::link_part;
+use reorder::PART;
+use reorder::width::width_of;
 ghost use mathlib.Core.Path.{_≡_};
 ghost use mathlib.Core.Logic.{_⊎_};
-ghost use mathlib.Core.List.{[], _∷_, _++_};
-ghost use Prim.Native.Nat.{suc, _+_, _*_, _/_, _%_, _≤_, _<_};
-ghost use lib.ListN.{length, drop};
-ghost use Rattle.fill.specs.Pack.{width};
-ghost use Rattle.fill.specs.Parts.{levelParts, halfPart, halfParts};
-ghost use Rattle.fill.specs.Splice.{splice};
-ghost use Rattle.fill.specs.Level.{partAt, partsAt, written, halvesTaken};
+ghost use mathlib.Core.List.{[], _∷_};
+ghost use Prim.Native.Nat.{suc, _+_, _*_, _≤_, _<_};
+ghost use lib.ListN.{length};
+ghost use Rattle.diagram.specs.Bound.{mostVariables};
+ghost use Rattle.reorder.specs.Sizes.{width};
+ghost use Rattle.fill.specs.Work.{regionSize};
+ghost use Rattle.fill.specs.inner.Parts.{levelParts, halfPart, halfParts};
+ghost use Rattle.fill.specs.inner.Level.{partAt, partsAt, written};
 
-// Writes a link's number as two bytes, the low one first.
-pub(crate) fn put_link(link: usize, work: &mut [u8], k: usize)
-    requires { ⌜ k + 2 ≤ length (now work) ⌝ }
-    ensures { λ _. ⌜ now (work .exit) ≡ splice (now (work .entry)) k (link % 256 ∷ link / 256 % 256 ∷ []) ⌝ }
-{
-    let next = k + 1;
-    work[k] = (link % 256) as u8;
-    work[next] = (link / 256 % 256) as u8;
-}
-
-// Places half b of the part at a among the k entries at to, and writes its link at l. Returns the number of entries.
+// Links half b of the part at a among the k entries at to, and writes its link at l. Returns the number of entries.
 pub(crate) fn link_half(
     b: bool,
     d: usize,
@@ -32,34 +23,28 @@ pub(crate) fn link_half(
     k: usize,
     l: usize,
     work: &mut [u8],
-    cand: &mut [u8],
 ) -> usize
-    requires { ⌜ d < 10 ⌝ }
+    requires { ⌜ d < mostVariables ⌝ }
     requires { ⌜ a + (width (suc d) + width (suc d)) ≤ length (now work) ⌝ }
-    requires { ⌜ to + 4096 ≤ length (now work) ⌝ }
-    requires { ⌜ (k + 1) * (width d + width d) ≤ 4096 ⌝ }
+    requires { ⌜ to + regionSize ≤ length (now work) ⌝ }
+    requires { ⌜ (k + 1) * (width d + width d) ≤ regionSize ⌝ }
     requires { ⌜ l + 2 ≤ length (now work) ⌝ }
-    requires { ⌜ width d + width d ≤ length (now cand) ⌝ }
     ensures entries { λ r. ⌜ r
         ≡ length (levelParts (width d) (partsAt d k to (now (work .entry))) (halfPart b d (partAt (suc d) a (now (work .entry))) ∷ []) .parts) ⌝ }
     ensures work { λ _. ⌜ now (work .exit)
         ≡ written (levelParts (width d) (partsAt d k to (now (work .entry))) (halfPart b d (partAt (suc d) a (now (work .entry))) ∷ []))
         to l (now (work .entry)) ⌝ }
-    ensures cand { λ _. ⌜ now (cand .exit)
-        ≡ halfPart b d (partAt (suc d) a (now (work .entry))) ++ drop (width d + width d) (now (cand .entry)) ⌝ }
 {
     let v = width_of(d + 1);
     let end = a + (v + v);
-    take_half(b, d, &work[a..end], cand);
+    let mut part = [0u8; PART];
+    take_half(b, d, &work[a..end], &mut part);
     let w = width_of(d);
     let s = w + w;
-    let stop = to + REGION;
-    let placed = candidate(w, &cand[0..s], &mut work[to..stop], k);
-    put_link(placed.link, work, l);
-    placed.entries
+    link_part(d, &part[0..s], to, k, l, work)
 }
 
-// Places both halves of the part at a, its 0-half first, and writes their links at l. Returns the number of entries.
+// Links both halves of the part at a, its 0-half first, and writes their links at l. Returns the number of entries.
 pub(crate) fn link_halves(
     d: usize,
     a: usize,
@@ -67,27 +52,24 @@ pub(crate) fn link_halves(
     k: usize,
     l: usize,
     work: &mut [u8],
-    cand: &mut [u8],
 ) -> usize
-    requires { ⌜ d < 10 ⌝ }
-    requires { ⌜ (a + (width (suc d) + width (suc d)) ≤ to) ⊎ (to + 4096 ≤ a) ⌝ }
-    requires { ⌜ (a + (width (suc d) + width (suc d)) ≤ l) × (to + 4096 ≤ l) ⌝ }
-    requires { ⌜ (k + 2) * (width d + width d) ≤ 4096 ⌝ }
+    requires { ⌜ d < mostVariables ⌝ }
+    requires { ⌜ (a + (width (suc d) + width (suc d)) ≤ to) ⊎ (to + regionSize ≤ a) ⌝ }
+    requires { ⌜ (a + (width (suc d) + width (suc d)) ≤ l) × (to + regionSize ≤ l) ⌝ }
+    requires { ⌜ (k + 2) * (width d + width d) ≤ regionSize ⌝ }
     requires { ⌜ l + 4 ≤ length (now work) ⌝ }
-    requires { ⌜ width d + width d ≤ length (now cand) ⌝ }
     ensures entries { λ r. ⌜ r
         ≡ length (levelParts (width d) (partsAt d k to (now (work .entry))) (halfParts d (partAt (suc d) a (now (work .entry)) ∷ [])) .parts) ⌝ }
     ensures work { λ _. ⌜ now (work .exit)
         ≡ written (levelParts (width d) (partsAt d k to (now (work .entry))) (halfParts d (partAt (suc d) a (now (work .entry)) ∷ [])))
         to l (now (work .entry)) ⌝ }
-    ensures cand { λ _. ⌜ now (cand .exit) ≡ halvesTaken d (partAt (suc d) a (now (work .entry)) ∷ []) (now (cand .entry)) ⌝ }
 {
-    let n = link_half(false, d, a, to, k, l, work, cand);
+    let n = link_half(false, d, a, to, k, l, work);
     let second = l + 2;
-    link_half(true, d, a, to, n, second, work, cand)
+    link_half(true, d, a, to, n, second, work)
 }
 
-// Places the halves of count parts at from among the entries at to, of which there are none yet, and writes their links at links.
+// Links the halves of count parts at from among the entries at to, of which there are none yet, and writes their links at links.
 // Returns the number of entries.
 pub(crate) fn level(
     d: usize,
@@ -96,17 +78,14 @@ pub(crate) fn level(
     to: usize,
     links: usize,
     work: &mut [u8],
-    cand: &mut [u8],
 ) -> usize
-    requires { ⌜ d < 10 ⌝ }
-    requires { ⌜ (from + 4096 ≤ to) ⊎ (to + 4096 ≤ from) ⌝ }
-    requires { ⌜ (from + 4096 ≤ links) × (to + 4096 ≤ links) × (links + 4 * count ≤ length (now work)) ⌝ }
-    requires { ⌜ (count * (width (suc d) + width (suc d)) ≤ 4096) × ((count + count) * (width d + width d) ≤ 4096) ⌝ }
-    requires { ⌜ 256 ≤ length (now cand) ⌝ }
+    requires { ⌜ d < mostVariables ⌝ }
+    requires { ⌜ (from + regionSize ≤ to) ⊎ (to + regionSize ≤ from) ⌝ }
+    requires { ⌜ (from + regionSize ≤ links) × (to + regionSize ≤ links) × (links + 4 * count ≤ length (now work)) ⌝ }
+    requires { ⌜ (count * (width (suc d) + width (suc d)) ≤ regionSize) × ((count + count) * (width d + width d) ≤ regionSize) ⌝ }
     ensures entries { λ r. ⌜ r ≡ length (levelParts (width d) [] (halfParts d (partsAt (suc d) count from (now (work .entry)))) .parts) ⌝ }
     ensures work { λ _. ⌜ now (work .exit)
         ≡ written (levelParts (width d) [] (halfParts d (partsAt (suc d) count from (now (work .entry))))) to links (now (work .entry)) ⌝ }
-    ensures cand { λ _. ⌜ now (cand .exit) ≡ halvesTaken d (partsAt (suc d) count from (now (work .entry))) (now (cand .entry)) ⌝ }
 {
     let v = width_of(d + 1);
     let mut e = 0;
@@ -114,7 +93,7 @@ pub(crate) fn level(
     while e < count {
         let a = from + e * (v + v);
         let l = links + 4 * e;
-        k = link_halves(d, a, to, k, l, work, cand);
+        k = link_halves(d, a, to, k, l, work);
         e += 1;
     }
     k

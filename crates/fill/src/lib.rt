@@ -5,9 +5,9 @@ mod copy;
 mod descent;
 mod entries;
 mod filling;
-mod gather;
 mod halves;
 mod level;
+mod link;
 mod outputs;
 mod part;
 
@@ -21,12 +21,13 @@ use table::valid::holds_table;
 ghost use mathlib.Core.Path.{_≡_};
 ghost use Rattle.fill.specs.Work.{clearedWork};
 ghost use Rattle.fill.specs.Calls.{countAnswer, countWork, levelsOf, linksWork};
-ghost use Rattle.fill.specs.Filling.{refusedLevels};
+ghost use Rattle.fill.specs.inner.Filling.{refusedLevels};
 
-// The bytes of a region for one level's entries, the place of the first link behind two regions, and the bytes of the work buffer.
+// The bytes of a region for one level's entries, where the links begin behind two regions, and the bytes of the work buffer;
+// specs/Work.antt has the definitions, `regionSize`, `linksAt` and `workSize`.
 const REGION: usize = 4096;
 
-pub const LINKS: usize = 8192;
+pub const LINKS: usize = 2 * REGION;
 
 pub const WORK: usize = 32768;
 

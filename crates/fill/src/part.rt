@@ -6,8 +6,8 @@ ghost use mathlib.Core.Path.{_≡_};
 ghost use Prim.Native.Nat.{_+_, _≤_, _<_};
 ghost use lib.Bits.{bitOr};
 ghost use lib.ListN.{length, getD, set};
-ghost use Rattle.fill.specs.Bytes.{mergeByte};
-ghost use Rattle.fill.specs.Parts.{alwaysPart, agreePart, mergePart};
+ghost use Rattle.fill.specs.inner.Bytes.{mergeByte};
+ghost use Rattle.fill.specs.inner.Parts.{alwaysPart, agreePart, mergePart};
 
 // Whether the candidate f is v wherever it is specified.
 pub(crate) fn always(v: bool, w: usize, f: &[u8]) -> bool

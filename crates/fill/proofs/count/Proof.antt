@@ -3,7 +3,7 @@ use borrow.Author.Needs.{needs}
 use denote.Ref.{now}
 use mathlib.Core.Path.{ap, _∙_}
 use Rattle.fill.specs.declared.Levels.{Levels}
-use Rattle.fill.proofs.CallLaws.{levels-answer}
+use Rattle.fill.proofs.Calls.Answers.{levels-answer}
 use Rattle.fill.proofs.count.Statement.{statement}
 use Rattle.fill.proofs.count.Tie as tie
 

@@ -6,7 +6,7 @@ use Rattle.table.specs.Answer.{done}
 use Rattle.table.proofs.Answers.{is-first, is-other}
 use Rattle.fill.specs.declared.Levels.{Levels}
 use Rattle.fill.specs.Calls.{countAnswer}
-use Rattle.fill.proofs.CallLaws.{levels-answer, count-refused, count-cleared}
+use Rattle.fill.proofs.Calls.Answers.{levels-answer, count-refused, count-cleared}
 use Rattle.fill.proofs.counts.Statement.{statement}
 use Rattle.fill.proofs.counts.Tie as tie
 

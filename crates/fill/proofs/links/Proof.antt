@@ -4,11 +4,11 @@ use denote.Ref.{now}
 use mathlib.Core.Path.{_≡_, refl, sym, _∙_}
 use mathlib.Core.Bool.{true, not}
 use borrow.Author.Tests.{not-true, not-false}
-use native.Mathlib.Omega.{arith}
 use Rattle.diagram.proofs.Bools.{to-T}
 use Rattle.table.specs.declared.Answer.the-variants.{ShortBuffer, NoTable}
 use Rattle.table.specs.State.{stageOf, isNothing}
-use Rattle.fill.proofs.CallLaws.{short-values, short-care, short-work, no-table, links-filled, links-refused}
+use Rattle.fill.proofs.Buffers.Sizes.{sizes}
+use Rattle.fill.proofs.Calls.Answers.{short-values, short-care, short-work, no-table, links-filled, links-refused}
 use Rattle.fill.proofs.links.Statement.{statement}
 use Rattle.fill.proofs.links.Tie as tie
 
@@ -39,7 +39,7 @@ returns-3 : tie.Need-returns-3
 returns-3 c =
     let a = c .before .before .before .before .before .before .before .args in
     let r = links-refused (a .state) (now (a .values)) (now (a .care)) (now (a .work)) ShortBuffer
-    (short-work (a .state) (now (a .values)) (now (a .care)) (now (a .work)) (c .before .if3 .taken)) refl in
+    (short-work (a .state) (now (a .values)) (now (a .care)) (now (a .work)) (omega (sizes, c .before .if3 .taken))) refl in
     (c .refused3 .ensures ∙ r .0, r .1)
 
 holds-table-requires : tie.Need-holds-table-requires
@@ -54,7 +54,7 @@ returns-4 c =
     let w = t .before in
     let a = w .before .before .before .before .before .before .args in
     let r = links-refused (a .state) (now (a .values)) (now (a .care)) (now (a .work)) NoTable
-    (no-table (a .state) (now (a .values)) (now (a .care)) (now (a .work)) (w .before .before .if1 .left) (w .before .if2 .left) (w .if3 .left)
+    (no-table (a .state) (now (a .values)) (now (a .care)) (now (a .work)) (w .before .before .if1 .left) (w .before .if2 .left) (omega (sizes, w .if3 .left))
     (sym (t .holds-table .ensures) ∙ not-true (t .holds-table .result) (c .before .if4 .taken))) refl in
     (c .refused4 .ensures ∙ r .0, r .1)
 
@@ -63,7 +63,7 @@ held : (c : tie.Else4)
 held c = sym (c .before .holds-table .ensures) ∙ not-false (c .before .holds-table .result) (c .if4 .left)
 
 fill-held-requires : tie.Need-fill-held-requires
-fill-held-requires c κs = (to-T (held (c .before)), omega (arith, c .before .before .before .if3 .left))
+fill-held-requires c κs = (to-T (held (c .before)), omega (sizes, c .before .before .before .if3 .left))
 
 same-length : tie.Need-same-length
 same-length c = search needs
@@ -75,7 +75,7 @@ returns-5 c =
     let w = e .before .before in
     let a = w .before .before .before .before .before .before .args in
     let r = links-filled (a .state) (now (a .values)) (now (a .care)) (now (a .work))
-    (w .before .before .if1 .left) (w .before .if2 .left) (w .if3 .left)
+    (w .before .before .if1 .left) (w .before .if2 .left) (omega (sizes, w .if3 .left))
     (held e) in
     (f .fill-held .ensures .0 ∙ r .0, f .fill-held .ensures .1 ∙ r .1)
 

@@ -1,5 +1,5 @@
 -- `fill::bytes::agree_byte` meets its contract: the definition, by cases on its flag. Assumes nothing.
-use Rattle.fill.specs.Bytes.{agreeByte}
+use Rattle.fill.specs.inner.Bytes.{agreeByte}
 use Rattle.fill.proofs.bytes.agree_byte.Statement.{statement}
 use Rattle.fill.proofs.bytes.agree_byte.Tie as tie
 

@@ -1,5 +1,5 @@
 -- `fill::bytes::always_byte` meets its contract: the definition, by cases on its flag. Assumes nothing.
-use Rattle.fill.specs.Bytes.{alwaysByte}
+use Rattle.fill.specs.inner.Bytes.{alwaysByte}
 use Rattle.fill.proofs.bytes.always_byte.Statement.{statement}
 use Rattle.fill.proofs.bytes.always_byte.Tie as tie
 

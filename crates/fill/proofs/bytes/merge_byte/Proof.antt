@@ -1,6 +1,6 @@
 -- `fill::bytes::merge_byte` meets its contract: the definition, by cases on its flag. Assumes nothing.
-use Rattle.fill.specs.Bytes.{mergeByte}
-use Rattle.fill.proofs.Merged.{merge-plain}
+use Rattle.fill.specs.inner.Bytes.{mergeByte}
+use Rattle.fill.proofs.Parts.PartMerge.{merge-plain}
 use Rattle.fill.proofs.bytes.merge_byte.Statement.{statement}
 use Rattle.fill.proofs.bytes.merge_byte.Tie as tie
 

@@ -5,14 +5,15 @@ use denote.Ref.{now}
 use mathlib.Core.Path.{refl}
 use Prim.Native.Nat.{_-_, _≤_, _+_, _*_}
 use native.Mathlib.Nat.{le-antisymm}
-use native.Mathlib.Omega.{arith}
 use lib.ListN.{length, set, getD}
-use Rattle.fill.proofs.Counting.{Counting, counting-first, counting-last, counting-room, counting-on}
+use Rattle.fill.specs.Work.{linksAt}
+use Rattle.fill.proofs.Buffers.Sizes.{sizes}
+use Rattle.fill.proofs.Counting.CountedCells.{Counting, counting-first, counting-last, counting-room, counting-on}
 use Rattle.fill.proofs.cells.level_counts.Statement.{statement}
 use Rattle.fill.proofs.cells.level_counts.Tie as tie
 
 abbrev Inv-loop : tie.InvT-loop
-Inv-loop n m work entries counts₀ at₀ p₀ counts at p = (p ≤ n) × Counting work (8192 + 2 * m) n entries p at counts
+Inv-loop n m work entries counts₀ at₀ p₀ counts at p = (p ≤ n) × Counting work (linksAt + 2 * m) n entries p at counts
 
 abbrev μ-loop : tie.MeasureT-loop
 μ-loop n m work entries counts₀ at₀ p₀ counts at p = n - p
@@ -24,10 +25,11 @@ add-at : tie.Need-add-at Inv-loop μ-loop
 add-at c = search needs
 
 loop-holds : tie.Need-loop-holds Inv-loop μ-loop
+unfolding linksAt
 loop-holds c =
     let s = c .before in
     let a = s .args in
-    (search needs, counting-first (now (a .work)) (8192 + 2 * a .m) (a .n) (a .t3) (omega (arith, s .good .1 .1 .0 .1)))
+    (search needs, counting-first (now (a .work)) (linksAt + 2 * a .m) (a .n) (a .t3) (omega (sizes, s .good .1 .1 .0 .1)))
 
 mul-pairs : tie.Need-mul-pairs Inv-loop μ-loop
 mul-pairs c = search needs
@@ -44,8 +46,8 @@ room c =
     let s = c .before .before .before in
     let a = s .args in
     omega (
-      arith,
-      counting-room (now (a .work)) (8192 + 2 * a .m) (a .n) (a .t3) (omega (arith, s .good .1 .1 .0 .1)) (l .p) (l .at) (l .counts)
+      sizes,
+      counting-room (now (a .work)) (linksAt + 2 * a .m) (a .n) (a .t3) (omega (sizes, s .good .1 .1 .0 .1)) (l .p) (l .at) (l .counts)
           (c .loop-test .taken) (l .inv .1),
       s .pre .2,
     )
@@ -60,10 +62,10 @@ array-write-counts : tie.Need-array-write-counts Inv-loop μ-loop
 array-write-counts c = search needs
 
 mul-at-2 : tie.Need-mul-at-2 Inv-loop μ-loop
-mul-at-2 c = omega (arith, room (c .before))
+mul-at-2 c = omega (sizes, room (c .before))
 
 add-at-2 : tie.Need-add-at-2 Inv-loop μ-loop
-add-at-2 c = omega (arith, room (c .before))
+add-at-2 c = omega (sizes, room (c .before))
 
 add-p : tie.Need-add-p Inv-loop μ-loop
 add-p c = search needs
@@ -77,7 +79,7 @@ loop-again c =
     let l = i .before .loop in
     let s = i .before .before .before in
     let a = s .args in
-    let t = counting-on (now (a .work)) (8192 + 2 * a .m) (a .n) (a .t3) (omega (arith, s .good .1 .1 .0 .1)) (l .p) (l .at) (l .counts)
+    let t = counting-on (now (a .work)) (linksAt + 2 * a .m) (a .n) (a .t3) (omega (sizes, s .good .1 .1 .0 .1)) (l .p) (l .at) (l .counts)
     (i .loop-test .taken) (l .inv .1) (c .differing-pairs .result) (set (l .counts) (l .p) (c .differing-pairs .result)) (s .pre .0)
     (c .differing-pairs .ensures) refl in
     (search needs, t)
@@ -87,7 +89,7 @@ returns c =
     let l = c .before .loop in
     let s = c .before .before .before in
     let a = s .args in
-    counting-last (now (a .work)) (8192 + 2 * a .m) (a .n) (a .t3) (omega (arith, s .good .1 .1 .0 .1)) (l .p) (l .at) (l .counts)
+    counting-last (now (a .work)) (linksAt + 2 * a .m) (a .n) (a .t3) (omega (sizes, s .good .1 .1 .0 .1)) (l .p) (l .at) (l .counts)
     (le-antisymm (l .inv .0) (c .loop-test .left)) (l .inv .1)
 
 pub level-counts-spec : {M : Type 1} → statement M

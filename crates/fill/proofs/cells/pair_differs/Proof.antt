@@ -1,7 +1,7 @@
 -- `fill::cells::pair_differs` meets its contract. Assumes nothing.
 use borrow.Author.Needs.{needs}
 use denote.Ref.{now}
-use Rattle.fill.proofs.Counting.{pair-low, pair-high}
+use Rattle.fill.proofs.Counting.CountedCells.{pair-low, pair-high}
 use Rattle.fill.proofs.cells.pair_differs.Statement.{statement}
 use Rattle.fill.proofs.cells.pair_differs.Tie as tie
 

@@ -7,7 +7,7 @@ use Prim.Native.Nat.{_-_, _≤_, _+_}
 use native.Mathlib.Nat.{zero-add}
 use native.Mathlib.Omega.{arith}
 use lib.ListN.{drop}
-use Rattle.fill.proofs.Counting.{sum-more, sum-all}
+use Rattle.fill.proofs.Counting.CountedCells.{sum-more, sum-all}
 use Rattle.fill.proofs.cells.total.Statement.{statement}
 use Rattle.fill.proofs.cells.total.Tie as tie
 

@@ -6,8 +6,8 @@ use Prim.Native.Nat.{ℕ, _+_, _-_, _≤_, zero-le}
 use native.Mathlib.Nat.{le-antisymm}
 use lib.ListN.{length, take}
 use lib.Seq.{take-length}
-use Rattle.fill.specs.Splice.{splice}
-use Rattle.fill.proofs.Spliced.{splice-none, splice-more, length-splice-take}
+use Rattle.fill.specs.inner.Splice.{splice}
+use Rattle.fill.proofs.Buffers.Splice.{splice-none, splice-more, length-splice-take}
 use Rattle.fill.proofs.copy.copy_to.Statement.{statement}
 use Rattle.fill.proofs.copy.copy_to.Tie as tie
 

@@ -5,36 +5,36 @@ use denote.Ref.{now}
 use mathlib.Core.Path.{_≡_, refl, ap, subst}
 use mathlib.Core.List.{List}
 use Prim.Native.Nat.{ℕ, suc, _+_, _*_, _-_, _≤_}
-use native.Mathlib.Omega.{arith}
 use lib.ListN.{length, set}
-use Rattle.fill.specs.Level.{partsAt}
-use Rattle.fill.specs.Descent.{linksUpTo}
-use Rattle.fill.proofs.Holding.{region-end}
-use Rattle.fill.proofs.Descended.{Going, going-first, going-last, going-asks, going-on}
+use Rattle.fill.specs.inner.Level.{partsAt}
+use Rattle.fill.specs.inner.Descent.{linksUpTo}
+use Rattle.fill.proofs.Buffers.Sizes.{sizes}
+use Rattle.fill.proofs.Buffers.HeldParts.{region-end}
+use Rattle.fill.proofs.Descents.WayDown.{Going, going-first, going-last, going-asks, going-on}
 use Rattle.fill.proofs.descent.descend.Statement.{statement}
 use Rattle.fill.proofs.descent.descend.Tie as tie
 
 abbrev Inv-loop : tie.InvT-loop
-Inv-loop n count links work₀ cand₀ entries₀ d₀ from₀ at₀ k₀ work cand entries d from at k =
+Inv-loop n count links work₀ entries₀ d₀ from₀ at₀ k₀ work entries d from at k =
     (d ≤ n) × Going n (partsAt n count 0 work₀) (linksUpTo links work₀) work₀ d from at k work entries
-    × (length work ≡ length work₀) × (length cand ≡ length cand₀)
+    × (length work ≡ length work₀)
 
 abbrev μ-loop : tie.MeasureT-loop
-μ-loop n count links work₀ cand₀ entries₀ d₀ from₀ at₀ k₀ work cand entries d from at k = d
+μ-loop n count links work₀ entries₀ d₀ from₀ at₀ k₀ work entries d from at k = d
 
 loop-holds : tie.Need-loop-holds Inv-loop μ-loop
 loop-holds c =
-    let s = c .before .before in
+    let s = c .before in
     let a = s .args in
     let w = now (a .work) in
     let g = going-first (a .n) (partsAt (a .n) (a .count) 0 w) (linksUpTo (a .links) w) w
     (s .pre .0 .2) (a .count) (a .links) refl refl (s .pre .0 .1)
     (s .pre .1 .0) (s .pre .1 .1 .0) (s .pre .1 .1 .1) in
-    (omega arith, g, refl, refl)
+    (omega sizes, g, refl)
 
 -- what is known in a turn, by the number of variables that the level below has
 abbrev begun : tie.In-loop Inv-loop μ-loop → tie.Start Inv-loop μ-loop
-begun c = c .before .before .before .before
+begun c = c .before .before .before
 
 abbrev all : tie.In-loop Inv-loop μ-loop → List (List ℕ)
 all c =
@@ -53,7 +53,7 @@ down : (c : tie.In-loop Inv-loop μ-loop)
 down c =
     let a = begun c .args in
     let l = c .before .loop in
-    let e : l .d ≡ suc (l .d - 1) = omega arith in
+    let e : l .d ≡ suc (l .d - 1) = omega sizes in
     subst (λ (d : ℕ). Going (a .n) (all c) (first c) (now (a .work)) d (l .from) (l .at) (l .k) (l .work) (l .entries)) e (l .inv .1)
 
 -- the links end within the work buffer
@@ -77,53 +77,50 @@ sub-d : tie.Need-sub-d Inv-loop μ-loop
 sub-d c = search needs
 
 sub-to : tie.Need-sub-to Inv-loop μ-loop
-sub-to c = omega (arith, region-end (c .before .loop .from) (c .before .loop .inv .1 .region))
+sub-to c = omega (sizes, region-end (c .before .loop .from) (c .before .loop .inv .1 .region))
 
 level-below-requires : tie.Need-level-below-requires Inv-loop μ-loop
 level-below-requires c κs =
-    let i = c .before .before in
+    let i = c .before in
     let l = i .before .loop in
     let s = begun i in
     let t = going-asks (s .args .n) (all i) (first i) (now (s .args .work)) (s .pre .0 .2)
     (l .d - 1) (l .from) (l .at) (l .k) (l .work) (l .entries) (down i)
     (l .inv .2) in
-    (omega (arith, s .pre .0 .0), (t .0, (t .1 .0, (t .1 .1, omega (arith, s .pre .0 .3)))))
+    (omega (sizes, s .pre .0 .0), (t .0, (t .1 .0, t .1 .1)))
 
 mul-at : tie.Need-mul-at Inv-loop μ-loop
-mul-at c = omega (arith, links-fit (c .before .before .before .before .before .before .before))
+mul-at c = omega (sizes, links-fit (c .before .before .before .before))
 
 add-at : tie.Need-add-at Inv-loop μ-loop
-add-at c = omega (arith, links-fit (c .before .before .before .before .before .before .before))
+add-at c = omega (sizes, links-fit (c .before .before .before .before))
 
 loop-less : tie.Need-loop-less Inv-loop μ-loop
 loop-less c = search needs
 
 loop-again : tie.Need-loop-again Inv-loop μ-loop
 loop-again c =
-    let i = c .before .before .before .before .before .before .before in
+    let i = c .before .before .before .before in
     let l = i .before .loop in
     let s = begun i in
-    let r = c .before .before .before .before .level-below in
-    let e : s .args .n - l .d ≡ s .args .n - suc (l .d - 1) = omega arith in
+    let r = c .before .before .level-below in
+    let e : s .args .n - l .d ≡ s .args .n - suc (l .d - 1) = omega sizes in
     let g = going-on (s .args .n) (all i) (first i) (now (s .args .work)) (s .pre .0 .2)
     (l .d - 1) (l .from) (l .at) (l .k) (l .work) (l .entries) (down i)
     (r .result) (r .last .1 .1 .1 .1 .1 .0) (set (l .entries) (s .args .n - l .d) (l .k)) (s .pre .0 .0) (r .ensures .0) (r .ensures .1)
     (ap (λ (j : ℕ). set (l .entries) j (l .k)) e) in
-    (omega arith, g, search needs, search needs)
+    (omega sizes, g, search needs)
 
 same-length : tie.Need-same-length Inv-loop μ-loop
 same-length c = search needs
 
-same-length-2 : tie.Need-same-length-2 Inv-loop μ-loop
-same-length-2 c = search needs
-
 returns : tie.Need-returns Inv-loop μ-loop
 returns c =
     let l = c .before .loop in
-    let s = c .before .before .before .before in
+    let s = c .before .before .before in
     let a = s .args in
     let w = now (a .work) in
-    let e : l .d ≡ 0 = omega arith in
+    let e : l .d ≡ 0 = omega sizes in
     let all = partsAt (a .n) (a .count) 0 w in
     let first = linksUpTo (a .links) w in
     let g = subst (λ (d : ℕ). Going (a .n) all first w d (l .from) (l .at) (l .k) (l .work) (l .entries)) e (l .inv .1) in
@@ -147,5 +144,4 @@ descend-spec =
     loop-less
     loop-again
     same-length
-    same-length-2
     returns)

@@ -4,7 +4,8 @@ use mathlib.Core.Path.{ap, _∙_}
 use mathlib.Core.List.{List}
 use Prim.Native.Nat.{ℕ}
 use lib.ListN.{replicate}
-use Rattle.fill.specs.Splice.{splice}
+use Rattle.fill.specs.Work.{regionSize}
+use Rattle.fill.specs.inner.Splice.{splice}
 use Rattle.fill.proofs.descent.level_below.Statement.{statement}
 use Rattle.fill.proofs.descent.level_below.Tie as tie
 
@@ -17,15 +18,12 @@ zero-requires c κs = search needs
 same-length : tie.Need-same-length
 same-length c = search needs
 
-same-length-2 : tie.Need-same-length-2
-same-length-2 c = search needs
-
 returns : tie.Need-returns
 returns c =
-    let a = c .before .before .before .before .before .before .before .before .before .before .before .before .before .args in
-    let l = c .before .before .before .before .before .before .before .before .level in
-    (l .ensures .0, c .before .before .zero .ensures ∙ ap (λ (y : List ℕ). splice y (a .from) (replicate 4096 0)) (l .ensures .1 .0))
+    let z = c .before .before in
+    let l = z .before .before .before .before in
+    let a = l .before .before .before .args in
+    (l .level .ensures .0, z .zero .ensures ∙ ap (λ (y : List ℕ). splice y (a .from) (replicate regionSize 0)) (l .level .ensures .1))
 
 pub level-below-spec : {M : Type 1} → statement M
-level-below-spec =
-    tie.close (tie.spec level-requires zero-requires same-length same-length-2 returns)
+level-below-spec = tie.close (tie.spec level-requires zero-requires same-length returns)

@@ -6,9 +6,9 @@ use Prim.Native.Nat.{_+_, _*_, _-_, _^_, _≤_, _<_, zero-le}
 use native.Mathlib.Nat.{le-antisymm}
 use native.Mathlib.Omega.{arith}
 use lib.ListN.{length}
-use Rattle.fill.specs.Splice.{splice}
-use Rattle.fill.proofs.Tried.{twice-le, room}
-use Rattle.fill.proofs.Along.{Passed, passed-none, turn-found, turn-passed, shown-end}
+use Rattle.fill.specs.inner.Splice.{splice}
+use Rattle.fill.proofs.Linking.TriedEntry.{twice-le, room}
+use Rattle.fill.proofs.Linking.Along.{Passed, passed-none, turn-found, turn-passed, shown-end}
 use Rattle.fill.proofs.entries.along.Statement.{statement}
 use Rattle.fill.proofs.entries.along.Tie as tie
 

@@ -2,7 +2,7 @@
 use borrow.Author.Needs.{needs}
 use mathlib.Core.Path.{sym, _∙_}
 use mathlib.Core.Bool.{true, false, false≢true}
-use Rattle.fill.proofs.Along.{shown-always, shown-along}
+use Rattle.fill.proofs.Linking.Along.{shown-always, shown-along}
 use Rattle.fill.proofs.entries.candidate.Statement.{statement}
 use Rattle.fill.proofs.entries.candidate.Tie as tie
 

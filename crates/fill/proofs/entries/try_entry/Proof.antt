@@ -7,7 +7,7 @@ use mathlib.Core.List.{List}
 use Prim.Native.Nat.{ℕ, _+_, _*_, _-_, _^_, _<_}
 use native.Mathlib.Omega.{arith}
 use lib.ListN.{length, take, drop}
-use Rattle.fill.proofs.Tried.{twice-le, plain-first, inverted-first, tried-found, tried-none}
+use Rattle.fill.proofs.Linking.TriedEntry.{twice-le, plain-first, inverted-first, tried-found, tried-none}
 use Rattle.fill.proofs.entries.try_entry.Statement.{statement}
 use Rattle.fill.proofs.entries.try_entry.Tie as tie
 

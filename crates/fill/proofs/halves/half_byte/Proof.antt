@@ -1,34 +1,32 @@
 -- `fill::halves::half_byte` meets its contract, by cases on b. Assumes nothing.
 use borrow.Author.Needs.{needs}
-use Prim.Native.Nat.{_^_}
 use native.Mathlib.Omega.{arith}
-use lib.Pow.{pow-pos}
-use Rattle.fill.proofs.Halved.{bits-high, bits-low}
+use Rattle.diagram.proofs.Bits.{one-shifted}
+use Rattle.fill.proofs.Parts.PartHalves.{shift-small, bits-high, bits-low}
 use Rattle.fill.proofs.halves.half_byte.Statement.{statement}
 use Rattle.fill.proofs.halves.half_byte.Tie as tie
 
-modulus-requires : tie.Need-modulus-requires
-modulus-requires c κs = search needs
+row-mask-requires : tie.Need-row-mask-requires
+row-mask-requires c κs = search needs
 
-div-result : tie.Need-div-result
-div-result c = omega (arith, pow-pos (2 ^ (c .before .before .args .d)), c .before .modulus .ensures)
+shl-result : tie.Need-shl-result
+shl-result c = search needs
 
-rem-result : tie.Need-rem-result
-rem-result c = omega (arith, pow-pos (2 ^ (c .before .before .args .d)), c .before .modulus .ensures)
+cast-result : tie.Need-cast-result
+cast-result c = omega (arith, shift-small (c .before .before .args .d) (c .before .before .pre))
+
+shr-result : tie.Need-shr-result
+shr-result c = shift-small (c .before .before .args .d) (c .before .before .pre)
 
 returns : tie.Need-returns
 returns c =
     let a = c .before .before .args in
-    bits-high (a .b) (a .d) (c .before .modulus .result) (a .x) (c .before .modulus .ensures) (c .if1 .taken)
-
-rem-result-2 : tie.Need-rem-result-2
-rem-result-2 c = omega (arith, pow-pos (2 ^ (c .before .before .args .d)), c .before .modulus .ensures)
+    bits-high (a .b) (a .d) _ (c .before .row-mask .result) (a .x) (one-shifted (a .d) (omega arith)) (c .before .row-mask .ensures) (c .if1 .taken)
 
 returns-2 : tie.Need-returns-2
 returns-2 c =
     let a = c .before .before .args in
-    bits-low (a .b) (a .d) (c .before .modulus .result) (a .x) (c .before .modulus .ensures) (c .if1 .left)
+    bits-low (a .b) (a .d) (c .before .row-mask .result) (a .x) (c .before .row-mask .ensures) (c .if1 .left)
 
 pub half-byte-spec : {M : Type 1} → statement M
-half-byte-spec =
-    tie.close (tie.spec modulus-requires div-result rem-result returns rem-result-2 returns-2)
+half-byte-spec = tie.close (tie.spec row-mask-requires shl-result cast-result shr-result returns returns-2)

@@ -2,8 +2,8 @@
 use borrow.Author.Needs.{needs}
 use native.Mathlib.Omega.{arith}
 use lib.ListN.{length, length-set}
-use Rattle.fill.proofs.Halved.{bits-taken}
-use Rattle.fill.proofs.PackLaws.{width-small}
+use Rattle.fill.proofs.Parts.PartHalves.{bits-taken}
+use Rattle.reorder.proofs.Pack.{width-small}
 use mathlib.Core.Path.{_≡_}
 use Prim.Native.Nat.{suc, _≤_}
 use Rattle.fill.proofs.halves.take_bits.Statement.{statement}

@@ -1,13 +1,21 @@
 -- `fill::halves::take_bytes` meets its contract: the values' half is copied to the front, the care's half right behind it.
 -- Assumes nothing.
 use borrow.Author.Needs.{needs}
-use mathlib.Core.Path.{refl}
+use mathlib.Core.Path.{_≡_, refl, _∙_}
 use Prim.Native.Nat.{_+_, _≤_}
 use native.Mathlib.Omega.{arith}
 use lib.ListN.{length}
-use Rattle.fill.proofs.Halved.{bytes-within, bytes-copied}
+use Rattle.reorder.specs.Sizes.{width}
+use Rattle.reorder.proofs.Shifts.{width-met}
+use Rattle.fill.proofs.Parts.PartHalves.{bytes-within, bytes-copied}
 use Rattle.fill.proofs.halves.take_bytes.Statement.{statement}
 use Rattle.fill.proofs.halves.take_bytes.Tie as tie
+
+-- the bytes of a half's values
+wide : (c : tie.After-width-of) → c .width-of .result ≡ width (c .before .before .before .args .d)
+wide c =
+    let s = c .before .before .before in
+    c .width-of .ensures ∙ width-met (s .args .d) (omega (arith, s .pre .1 .0))
 
 -- all that is copied lies in the part
 within : (c : tie.After-where-true)
@@ -16,7 +24,7 @@ within : (c : tie.After-where-true)
 within c =
     let s = c .before .before .before .before in
     bytes-within (s .args .b) (s .args .d) (c .before .width-of .result) (c .where-true .result) (length (s .args .part .now))
-    (s .pre .0) (s .pre .1 .1 .0) (c .before .width-of .ensures) (c .where-true .ensures)
+    (s .pre .0) (s .pre .1 .1 .0) (wide (c .before)) (c .where-true .ensures)
 
 width-of-requires : tie.Need-width-of-requires
 width-of-requires c κs = search needs
@@ -37,10 +45,10 @@ part-copy-to-end : tie.Need-part-copy-to-end
 part-copy-to-end c = omega (arith, within c)
 
 copy-to-requires : tie.Need-copy-to-requires
-copy-to-requires c κs = search needs
+copy-to-requires c κs = let w = wide (c .before .before .before) in search needs
 
 add-care : tie.Need-add-care
-add-care c = search needs
+add-care c = omega (arith, within (c .before .before .before .before .before))
 
 add-care-2 : tie.Need-add-care-2
 add-care-2 c = omega (arith, within (c .before .before .before .before .before))
@@ -58,7 +66,7 @@ part-copy-to-end-2 : tie.Need-part-copy-to-end-2
 part-copy-to-end-2 c = omega (arith, within (c .before .before .before .before .before))
 
 copy-to-requires-2 : tie.Need-copy-to-requires-2
-copy-to-requires-2 c κs = search needs
+copy-to-requires-2 c κs = let w = wide (c .before .before .before .before .before .before .before .before) in search needs
 
 same-length : tie.Need-same-length
 same-length c = search needs
@@ -73,7 +81,7 @@ returns c =
     let x = c .before .before .before .before .before .before .before .copy-to in
     let y = c .before .before .copy-to2 in
     bytes-copied (a .b) (a .d) (w .result) (v .result) (w .result + w .result + v .result) (a .part .now) (a .cand .now)
-    (x .last .1 .0) (y .last .1 .0) (s .pre .0) (s .pre .1 .1 .0) (w .ensures) (v .ensures) refl (x .ensures) (y .ensures)
+    (x .last .1 .0) (y .last .1 .0) (s .pre .0) (s .pre .1 .1 .0) (wide (r .before)) (v .ensures) refl (x .ensures) (y .ensures)
 
 pub take-bytes-spec : {M : Type 1} → statement M
 take-bytes-spec =

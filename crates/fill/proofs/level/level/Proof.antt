@@ -1,4 +1,4 @@
--- `fill::level::level` meets its contract. The loop's invariant: the halves of the first e parts are placed. The measure is how many parts
+-- `fill::level::level` meets its contract. The loop's invariant: the halves of the first e parts are linked. The measure is how many parts
 -- are left. Assumes nothing.
 use borrow.Author.Needs.{needs}
 use mathlib.Core.Path.{_≡_, refl, ap, _∙_, subst}
@@ -7,17 +7,19 @@ use native.Mathlib.Nat.{le-antisymm}
 use native.Mathlib.Numerals.{add-one}
 use native.Mathlib.Omega.{arith}
 use lib.ListN.{length}
-use Rattle.fill.specs.Pack.{width}
-use Rattle.fill.proofs.Turned.{SoFar, so-far-none, in-region, turn-asks, turn-done}
+use Rattle.reorder.specs.Sizes.{width}
+use Rattle.reorder.proofs.Shifts.{width-met}
+use Rattle.fill.specs.Work.{regionSize}
+use Rattle.fill.proofs.Linking.LinkedHalves.{SoFar, so-far-none, in-region, turn-asks, turn-leaves}
 use Rattle.fill.proofs.level.level.Statement.{statement}
 use Rattle.fill.proofs.level.level.Tie as tie
 
 abbrev Inv-loop : tie.InvT-loop
-Inv-loop d from count to links work₀ cand₀ v e₀ k₀ work cand e k =
-    (e ≤ count) × SoFar d from to links work₀ cand₀ e k work cand × (length work ≡ length work₀) × (length cand ≡ length cand₀)
+Inv-loop d from count to links work₀ v e₀ k₀ work e k =
+    (e ≤ count) × SoFar d from to links work₀ e k work × (length work ≡ length work₀)
 
 abbrev μ-loop : tie.MeasureT-loop
-μ-loop d from count to links work₀ cand₀ v e₀ k₀ work cand e k = count - e
+μ-loop d from count to links work₀ v e₀ k₀ work e k = count - e
 
 add-width-of : tie.Need-add-width-of Inv-loop μ-loop
 add-width-of c = search needs
@@ -27,32 +29,34 @@ width-of-requires c κs = search needs
 
 loop-holds : tie.Need-loop-holds Inv-loop μ-loop
 loop-holds c =
-    let a = c .before .before .before .args in
-    (zero-le, so-far-none (a .d) (a .from) (a .to) (a .links) (a .work .now) (a .cand .now), refl, refl)
+    let a = c .before .before .args in
+    (zero-le, so-far-none (a .d) (a .from) (a .to) (a .links) (a .work .now), refl)
 
--- the place of the part, and that it lies in its region
+-- where the part is, and that it lies in its region
 abbrev begun : tie.In-loop Inv-loop μ-loop → tie.Start Inv-loop μ-loop
-begun c = c .before .before .before .before .before
+begun c = c .before .before .before .before
 
-abbrev place : tie.In-loop Inv-loop μ-loop → ℕ
-place c =
+abbrev offset : tie.In-loop Inv-loop μ-loop → ℕ
+offset c =
     let v = c .before .before .width-of .result in
     begun c .args .from + c .before .loop .e * (v + v)
 
 wide : (c : tie.In-loop Inv-loop μ-loop) → c .before .before .width-of .result ≡ width (suc (begun c .args .d))
-wide c = c .before .before .width-of .ensures ∙ ap width (add-one (begun c .args .d))
+wide c =
+    let s = begun c in
+    c .before .before .width-of .ensures ∙ width-met (s .args .d + 1) (omega (arith, s .pre .0)) ∙ ap width (add-one (s .args .d))
 
 at-part : (c : tie.In-loop Inv-loop μ-loop)
-    → place c ≡ begun c .args .from + c .before .loop .e * (width (suc (begun c .args .d)) + width (suc (begun c .args .d)))
+    → offset c ≡ begun c .args .from + c .before .loop .e * (width (suc (begun c .args .d)) + width (suc (begun c .args .d)))
 at-part c = ap (λ (v : ℕ). begun c .args .from + c .before .loop .e * (v + v)) (wide c)
 
 within : (c : tie.In-loop Inv-loop μ-loop)
-    → place c + (width (suc (begun c .args .d)) + width (suc (begun c .args .d))) ≤ begun c .args .from + 4096
+    → offset c + (width (suc (begun c .args .d)) + width (suc (begun c .args .d))) ≤ begun c .args .from + regionSize
 within c =
     let s = begun c in
     let a = s .args in
-    in-region (a .d) (a .from) (a .count) (a .to) (a .links) (a .work .now) (a .cand .now) (s .pre .1 .0) (s .pre .1 .1 .0) (s .pre .1 .1 .1 .0)
-    (c .before .loop .e) (place c) (c .loop-test .taken) (at-part c)
+    in-region (a .d) (a .from) (a .count) (a .to) (a .links) (a .work .now) (s .pre .1 .0) (s .pre .1 .1 .0) (s .pre .1 .1 .1)
+    (c .before .loop .e) (offset c) (c .loop-test .taken) (at-part c)
 
 add-a : tie.Need-add-a Inv-loop μ-loop
 add-a c = omega (arith, within c, wide c)
@@ -71,13 +75,13 @@ add-l c = search needs
 
 link-halves-requires : tie.Need-link-halves-requires Inv-loop μ-loop
 link-halves-requires c κs =
-    let i = c .before .before in
+    let i = c .before in
     let l = i .before in
     let s = begun i in
     let a = s .args in
-    turn-asks (a .d) (a .from) (a .count) (a .to) (a .links) (a .work .now) (a .cand .now) (s .pre .1 .0) (s .pre .1 .1 .0) (s .pre .1 .1 .1 .0)
-    (l .loop .e) (place i) (i .loop-test .taken) (at-part i)
-    (l .loop .k) (a .links + 4 * l .loop .e) (l .loop .work) (l .loop .cand) (s .pre .0) refl (l .loop .inv .1) (l .loop .inv .2) (search needs)
+    turn-asks (a .d) (a .from) (a .count) (a .to) (a .links) (a .work .now) (s .pre .1 .0) (s .pre .1 .1 .0) (s .pre .1 .1 .1)
+    (l .loop .e) (offset i) (i .loop-test .taken) (at-part i)
+    (l .loop .k) (a .links + 4 * l .loop .e) (l .loop .work) (s .pre .0) refl (l .loop .inv .1) (l .loop .inv .2)
 
 add-e : tie.Need-add-e Inv-loop μ-loop
 add-e c = search needs
@@ -87,31 +91,28 @@ loop-less c = search needs
 
 loop-again : tie.Need-loop-again Inv-loop μ-loop
 loop-again c =
-    let i = c .before .before .before .before .before .before .before in
+    let i = c .before .before .before .before in
     let l = i .before in
     let s = begun i in
     let a = s .args in
-    let h = c .before .before .before .before .link-halves in
-    let t = turn-done (a .d) (a .from) (a .count) (a .to) (a .links) (a .work .now) (a .cand .now) (s .pre .1 .0) (s .pre .1 .1 .0) (s .pre .1 .1 .1 .0)
-    (l .loop .e) (place i) (i .loop-test .taken) (at-part i)
-    (l .loop .k) (a .links + 4 * l .loop .e) (h .result) (l .loop .work) (h .last .1 .1 .1 .1 .1 .0) (l .loop .cand) (h .last .1 .1 .1 .1 .1 .1 .0)
-    refl (l .loop .inv .1) (h .ensures .0) (h .ensures .1 .0) (h .ensures .1 .1) in
-    (search needs, t, search needs, search needs)
+    let h = c .before .before .link-halves in
+    let t = turn-leaves (a .d) (a .from) (a .count) (a .to) (a .links) (a .work .now) (s .pre .1 .0) (s .pre .1 .1 .0) (s .pre .1 .1 .1)
+    (l .loop .e) (offset i) (i .loop-test .taken) (at-part i)
+    (l .loop .k) (a .links + 4 * l .loop .e) (h .result) (l .loop .work) (h .last .1 .1 .1 .1 .1 .0)
+    refl (l .loop .inv .1) (h .ensures .0) (h .ensures .1) in
+    (search needs, t, search needs)
 
 same-length : tie.Need-same-length Inv-loop μ-loop
 same-length c = search needs
 
-same-length-2 : tie.Need-same-length-2 Inv-loop μ-loop
-same-length-2 c = search needs
-
 returns : tie.Need-returns Inv-loop μ-loop
 returns c =
     let l = c .before in
-    let a = l .before .before .before .before .args in
+    let a = l .before .before .before .args in
     let e = le-antisymm (l .loop .inv .0) (c .loop-test .left) in
-    let t = subst (λ (n : ℕ). SoFar (a .d) (a .from) (a .to) (a .links) (a .work .now) (a .cand .now) n (l .loop .k) (l .loop .work) (l .loop .cand)) e
+    let t = subst (λ (n : ℕ). SoFar (a .d) (a .from) (a .to) (a .links) (a .work .now) n (l .loop .k) (l .loop .work)) e
     (l .loop .inv .1) in
-    (t .entries, (t .buffer, t .taken))
+    (t .entries, t .buffer)
 
 pub level-spec : {M : Type 1} → statement M
 level-spec =
@@ -132,5 +133,4 @@ level-spec =
     loop-less
     loop-again
     same-length
-    same-length-2
     returns)

@@ -1,16 +1,18 @@
--- `fill::outputs::link_output` meets its contract: what lies at the front of cand is the output, and the region lent holds the entries' parts.
--- Assumes nothing.
+-- `fill::outputs::link_output` meets its contract: what lies at the front of what is gathered is the output. Assumes nothing.
 use borrow.Author.Needs.{needs}
 use denote.Ref.{now}
 use mathlib.Core.Path.{_≡_, refl, ap, _∙_}
-use mathlib.Core.List.{List}
-use Prim.Native.Nat.{ℕ, _+_, _-_, _*_}
-use native.Mathlib.Omega.{arith}
+use mathlib.Core.List.{List, [], _∷_}
+use Prim.Native.Nat.{ℕ, _+_, _*_, _-_, _≤_}
 use lib.ListN.{length, take}
-use Rattle.fill.specs.Gather.{gatheredPart}
-use Rattle.fill.proofs.Shifts.{width-room}
-use Rattle.fill.proofs.Levelled.{placed-half, placed-asks}
-use Rattle.fill.proofs.OutputsLinked.{length-gathered, output-is}
+use Rattle.reorder.specs.Sizes.{width}
+use Rattle.reorder.specs.Gather.{gatheredPart}
+use Rattle.reorder.proofs.Shifts.{part-size, width-room, width-met}
+use Rattle.reorder.proofs.Gathered.{length-gathered, part-front}
+use Rattle.fill.specs.Work.{linksAt}
+use Rattle.fill.specs.inner.Parts.{levelParts}
+use Rattle.fill.specs.inner.Level.{partsAt, written}
+use Rattle.fill.proofs.Buffers.Sizes.{links-at, sizes}
 use Rattle.fill.proofs.outputs.link_output.Statement.{statement}
 use Rattle.fill.proofs.outputs.link_output.Tie as tie
 
@@ -20,60 +22,18 @@ gather-output-requires c κs = search needs
 width-of-requires : tie.Need-width-of-requires
 width-of-requires c κs = search needs
 
-add-s : tie.Need-add-s
-add-s c = search needs
-
--- the output at the front of the candidate's buffer
+-- the bytes of the output's values, and that its part fits
 abbrev begun : tie.After-width-of → tie.Start
-begun w = w .before .before .before .before .before .before .before .before .before .before
+begun w = w .before .before .before .before .before
 
-abbrev gotten : tie.After-width-of → List ℕ
-gotten w = w .before .before .before .gather-output .last .1 .1 .1 .1 .1 .0
+wide : (w : tie.After-width-of) → w .width-of .result ≡ width (begun w .args .n)
+wide w = w .width-of .ensures ∙ width-met (begun w .args .n) (begun w .pre .0 .0)
 
-output : (w : tie.After-width-of)
-    → let a = begun w .args in
-    take (w .width-of .result + w .width-of .result - 0) (gotten w)
-    ≡ gatheredPart (now (a .values)) (now (a .care)) (now (a .rows)) (a .n) (a .j)
-output w =
-    let a = begun w .args in
-    output-is (a .n) (now (a .values)) (now (a .care)) (now (a .rows)) (a .j) (w .width-of .result) (now (a .cand)) (gotten w)
-    (w .width-of .ensures) (w .before .before .before .gather-output .ensures)
+fits : (w : tie.After-width-of) → w .width-of .result + w .width-of .result ≤ 256
+fits w = omega (sizes, wide w, part-size, width-room (begun w .args .n) (begun w .pre .0 .0))
 
-sub-candidate : tie.Need-sub-candidate
-sub-candidate c = search needs
-
-part-candidate-start : tie.Need-part-candidate-start
-part-candidate-start c = search needs
-
-part-candidate-end : tie.Need-part-candidate-end
-part-candidate-end c =
-    let w = c .before in
-    let s = w .before .before .before .before .before .before .before .before .before .before in
-    omega (
-      arith,
-      w .width-of .ensures,
-      width-room (s .args .n) (s .pre .0 .0),
-      s .pre .1 .2,
-      w .before .before .before .gather-output .kept .1 .1 .1 .1 .1 .0,
-    )
-
-sub-candidate-2 : tie.Need-sub-candidate-2
-sub-candidate-2 c = search needs
-
-part-candidate-start-2 : tie.Need-part-candidate-start-2
-part-candidate-start-2 c = search needs
-
-part-candidate-end-2 : tie.Need-part-candidate-end-2
-part-candidate-end-2 c = search needs
-
-candidate-requires : tie.Need-candidate-requires
-candidate-requires c κs =
-    let w = c .before .before .before in
-    let s = begun w in
-    let a = s .args in
-    placed-asks (a .n) (a .k) 0 (w .width-of .result) 4096 (take (w .width-of .result + w .width-of .result - 0) (gotten w)) (now (a .work))
-    (w .width-of .ensures) refl (ap length (output w) ∙ length-gathered (a .n) (now (a .values)) (now (a .care)) (now (a .rows)) (a .j))
-    (s .pre .0 .2) (omega arith)
+add-s : tie.Need-add-s
+add-s c = omega (sizes, fits c)
 
 mul-l : tie.Need-mul-l
 mul-l c = search needs
@@ -81,28 +41,57 @@ mul-l c = search needs
 add-l : tie.Need-add-l
 add-l c = search needs
 
-put-link-requires : tie.Need-put-link-requires
-put-link-requires c κs = search needs
+sub-link-part : tie.Need-sub-link-part
+sub-link-part c = search needs
+
+part-link-part-start : tie.Need-part-link-part-start
+part-link-part-start c = search needs
+
+part-link-part-end : tie.Need-part-link-part-end
+part-link-part-end c = omega (sizes, fits (c .before))
+
+-- the output at the front of what is gathered
+abbrev output-of : tie.After-width-of → List ℕ
+output-of w =
+    let a = begun w .args in
+    gatheredPart (now (a .values)) (now (a .care)) (a .rows) (a .n) (a .j)
+
+output : (w : tie.After-width-of)
+    → take (w .width-of .result + w .width-of .result - 0) (w .before .gather-output .result) ≡ output-of w
+output w =
+    let s = begun w in
+    let a = s .args in
+    ap (take (w .width-of .result + w .width-of .result - 0)) (w .before .gather-output .ensures)
+    ∙ part-front (now (a .values)) (now (a .care)) (a .rows) (a .n) (a .j) (w .width-of .result + w .width-of .result - 0)
+    (s .pre .0 .0) (s .pre .0 .1) (omega (sizes, wide w))
+
+link-part-requires : tie.Need-link-part-requires
+link-part-requires c κs =
+    let w = c .before .before .before in
+    let s = begun w in
+    let a = s .args in (
+      (
+        s .pre .0 .0,
+        ap length (output w) ∙ length-gathered (now (a .values)) (now (a .care)) (a .rows) (a .n) (a .j),
+      ),
+      ((omega (sizes, s .pre .1), s .pre .0 .2), omega (sizes, s .pre .1, s .pre .0 .1)),
+    )
 
 same-length : tie.Need-same-length
 same-length c = search needs
 
-same-length-2 : tie.Need-same-length-2
-same-length-2 c = search needs
-
 returns : tie.Need-returns
+unfolding linksAt
 returns c =
-    let w = c .before .before .before .before .before .before .before .before .before .before in
-    let s = begun w in
-    let a = s .args in
-    let m = c .before .before .before .before .before .before .candidate in
-    let f = gatheredPart (now (a .values)) (now (a .care)) (now (a .rows)) (a .n) (a .j) in
-    let r = placed-half (a .n) (a .k) 0 f (now (a .work)) (length-gathered (a .n) (now (a .values)) (now (a .care)) (now (a .rows)) (a .j))
-    (s .pre .0 .2) (omega arith)
-    (w .width-of .result) 4096 (8192 + 2 * a .j) (m .result .entries) (m .result .link)
-    (take (w .width-of .result + w .width-of .result - 0) (gotten w)) (m .last .1 .1 .0)
-    (c .before .before .put-link .last .1 .0) (w .width-of .ensures) refl (output w) (m .ensures) (c .before .before .put-link .ensures) in
-    (r .0, (r .1, w .before .before .before .gather-output .ensures))
+    let p = c .before .before in
+    let w = p .before .before .before .before in
+    let a = begun w .args in
+    let m = now (a .work) in (
+      p .link-part .ensures .0
+          ∙ ap (λ (y : List ℕ). length (levelParts (width (a .n)) (partsAt (a .n) (a .k) 0 m) (y ∷ []) .parts)) (output w),
+      p .link-part .ensures .1
+          ∙ ap (λ (y : List ℕ). written (levelParts (width (a .n)) (partsAt (a .n) (a .k) 0 m) (y ∷ [])) 0 (8192 + 2 * a .j) m) (output w),
+    )
 
 pub link-output-spec : {M : Type 1} → statement M
 link-output-spec =
@@ -111,16 +100,11 @@ link-output-spec =
     gather-output-requires
     width-of-requires
     add-s
-    sub-candidate
-    part-candidate-start
-    part-candidate-end
-    sub-candidate-2
-    part-candidate-start-2
-    part-candidate-end-2
-    candidate-requires
     mul-l
     add-l
-    put-link-requires
+    sub-link-part
+    part-link-part-start
+    part-link-part-end
+    link-part-requires
     same-length
-    same-length-2
     returns)

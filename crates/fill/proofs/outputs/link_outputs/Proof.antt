@@ -1,4 +1,4 @@
--- `fill::outputs::link_outputs` meets its contract. The loop's invariant: the first j outputs are placed. Assumes nothing.
+-- `fill::outputs::link_outputs` meets its contract. The loop's invariant: the first j outputs are linked. Assumes nothing.
 use borrow.Author.Needs.{needs}
 use denote.Ref.{now}
 use mathlib.Core.Path.{_≡_, refl, subst}
@@ -6,31 +6,32 @@ use Prim.Native.Nat.{ℕ, _-_, _≤_, _<_, zero-le}
 use native.Mathlib.Nat.{le-antisymm}
 use native.Mathlib.Omega.{arith}
 use lib.ListN.{length}
-use Rattle.fill.proofs.OutputsLinked.{Linked, placed-none, output-room, output-placed}
+use Rattle.diagram.specs.Bound.{mostOutputs}
+use Rattle.fill.proofs.Linking.LinkedOutputs.{Linked, linked-none, output-room, output-linked}
 use Rattle.fill.proofs.outputs.link_outputs.Statement.{statement}
 use Rattle.fill.proofs.outputs.link_outputs.Tie as tie
 
 abbrev Inv-loop : tie.InvT-loop
-Inv-loop n m values care rows work₀ cand₀ j₀ k₀ work cand j k =
-    (j ≤ m) × Linked n values care rows work₀ j k work × (length work ≡ length work₀) × (length cand ≡ length cand₀)
+Inv-loop n m values care rows work₀ j₀ k₀ work j k =
+    (j ≤ m) × Linked n values care rows work₀ j k work × (length work ≡ length work₀)
 
 abbrev μ-loop : tie.MeasureT-loop
-μ-loop n m values care rows work₀ cand₀ j₀ k₀ work cand j k = m - j
+μ-loop n m values care rows work₀ j₀ k₀ work j k = m - j
 
 loop-holds : tie.Need-loop-holds Inv-loop μ-loop
 loop-holds c =
-    let a = c .before .before .before .before .before .args in
-    (zero-le, placed-none (a .n) (now (a .values)) (now (a .care)) (now (a .rows)) (now (a .work)), refl, refl)
+    let a = c .before .before .before .args in
+    (zero-le, linked-none (a .n) (now (a .values)) (now (a .care)) (a .rows) (now (a .work)), refl)
 
 link-output-requires : tie.Need-link-output-requires Inv-loop μ-loop
 link-output-requires c κs =
-    let l = c .before .before .before .loop in
-    let s = c .before .before .before .before .before .before .before .before .before in
+    let l = c .before .before .loop in
+    let s = c .before .before .before .before .before .before in
     let a = s .args in
-    let few : l .j < 16 = omega (arith, s .pre .0 .1) in
-    let r = output-room (a .n) (now (a .values)) (now (a .care)) (now (a .rows)) (now (a .work))
+    let few : l .j < mostOutputs = omega (arith, s .pre .0 .1) in
+    let r = output-room (a .n) (now (a .values)) (now (a .care)) (a .rows) (now (a .work))
     (l .j) (l .k) (l .work) (s .pre .0 .0) few (l .inv .1) in
-    ((s .pre .0 .0, few, r), (s .pre .1 .0, omega (arith, s .pre .1 .1), omega (arith, s .pre .1 .2)))
+    ((s .pre .0 .0, few, r), omega (arith, s .pre .1))
 
 add-j : tie.Need-add-j Inv-loop μ-loop
 add-j c = search needs
@@ -40,28 +41,25 @@ loop-less c = search needs
 
 loop-again : tie.Need-loop-again Inv-loop μ-loop
 loop-again c =
-    let l = c .before .before .before .before .before .before .before .before .loop in
-    let s = c .before .before .before .before .before .before .before .before .before .before .before .before .before .before in
+    let p = c .before .before .link-output in
+    let l = c .before .before .before .before .before .loop in
+    let s = c .before .before .before .before .before .before .before .before .before in
     let a = s .args in
-    let p = c .before .before .before .before .link-output in
-    let few : l .j < 16 = omega (arith, s .pre .0 .1) in
-    let t = output-placed (a .n) (now (a .values)) (now (a .care)) (now (a .rows)) (now (a .work))
+    let few : l .j < mostOutputs = omega (arith, s .pre .0 .1) in
+    let t = output-linked (a .n) (now (a .values)) (now (a .care)) (a .rows) (now (a .work))
     (l .j) (l .k) (l .work) (s .pre .0 .0) few (l .inv .1)
-    (p .result) (p .last .1 .1 .1 .1 .1 .1 .0) (s .pre .1 .1) (p .ensures .0) (p .ensures .1 .0) in
-    (search needs, t, search needs, search needs)
+    (p .result) (p .last .1 .1 .1 .1 .1 .1 .0) (s .pre .1) (p .ensures .0) (p .ensures .1) in
+    (search needs, t, search needs)
 
 same-length : tie.Need-same-length Inv-loop μ-loop
 same-length c = search needs
 
-same-length-2 : tie.Need-same-length-2 Inv-loop μ-loop
-same-length-2 c = search needs
-
 returns : tie.Need-returns Inv-loop μ-loop
 returns c =
     let l = c .before .loop in
-    let a = c .before .before .before .before .before .before .before .args in
+    let a = c .before .before .before .before .before .args in
     let e = le-antisymm (l .inv .0) (c .loop-test .left) in
-    let t = subst (λ (j : ℕ). Linked (a .n) (now (a .values)) (now (a .care)) (now (a .rows)) (now (a .work)) j (l .k) (l .work)) e (l .inv .1) in
+    let t = subst (λ (j : ℕ). Linked (a .n) (now (a .values)) (now (a .care)) (a .rows) (now (a .work)) j (l .k) (l .work)) e (l .inv .1) in
     (t .entries, t .buffer)
 
 pub link-outputs-spec : {M : Type 1} → statement M
@@ -76,5 +74,4 @@ link-outputs-spec =
     loop-less
     loop-again
     same-length
-    same-length-2
     returns)

@@ -9,8 +9,8 @@ use Prim.Native.Nat.{ℕ, _-_, _≤_, zero-le}
 use native.Mathlib.Nat.{le-antisymm}
 use Rattle.diagram.specs.Lists.{all, upTo}
 use Rattle.diagram.proofs.Numbers.{all-upTo-more, all-upTo-fails}
-use Rattle.fill.specs.Bytes.{agreeByte}
-use Rattle.fill.specs.Parts.{valueByte, careByte, agreePart}
+use Rattle.fill.specs.inner.Bytes.{agreeByte}
+use Rattle.fill.specs.inner.Parts.{valueByte, careByte, agreePart}
 use Rattle.fill.proofs.part.agree.Statement.{statement}
 use Rattle.fill.proofs.part.agree.Tie as tie
 

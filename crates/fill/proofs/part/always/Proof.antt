@@ -9,8 +9,8 @@ use Prim.Native.Nat.{ℕ, _-_, _≤_, zero-le}
 use native.Mathlib.Nat.{le-antisymm}
 use Rattle.diagram.specs.Lists.{all, upTo}
 use Rattle.diagram.proofs.Numbers.{all-upTo-more, all-upTo-fails}
-use Rattle.fill.specs.Bytes.{alwaysByte}
-use Rattle.fill.specs.Parts.{valueByte, careByte, alwaysPart}
+use Rattle.fill.specs.inner.Bytes.{alwaysByte}
+use Rattle.fill.specs.inner.Parts.{valueByte, careByte, alwaysPart}
 use Rattle.fill.proofs.part.always.Statement.{statement}
 use Rattle.fill.proofs.part.always.Tie as tie
 

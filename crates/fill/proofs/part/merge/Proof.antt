@@ -5,7 +5,7 @@ use mathlib.Core.Path.{_≡_, sym, ap, _∙_}
 use Prim.Native.Nat.{_+_, _-_, _≤_, zero-le}
 use native.Mathlib.Nat.{le-antisymm}
 use lib.ListN.{length}
-use Rattle.fill.proofs.Merged.{merged, merged-none, merged-more, merged-all, length-merged}
+use Rattle.fill.proofs.Parts.PartMerge.{merged, merged-none, merged-more, merged-all, length-merged}
 use Rattle.fill.proofs.part.merge.Statement.{statement}
 use Rattle.fill.proofs.part.merge.Tie as tie
 

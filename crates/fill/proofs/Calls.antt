@@ -1,0 +1,5 @@
+pub mod Answers
+pub mod Filling
+pub mod FreeRows
+pub mod HeldFilling
+pub mod MaskedRows

@@ -1,0 +1,116 @@
+-- What the calls answer and leave, by the test that led there.
+-- Assumes nothing.
+use mathlib.Core.Path.{_≡_, refl, sym, ap, _∙_}
+use mathlib.Core.Bool.{Bool, true, false, not, _&&_, false≢true, and-false}
+use mathlib.Core.List.{List}
+use Prim.Native.Nat.{ℕ, _≤_, _<_}
+use borrow.Author.Tests.{le-leb, lt-leb}
+use lib.Dec.{T, leb, leb→le}
+use lib.ListN.{length}
+use Rattle.diagram.specs.Table.{cost}
+use Rattle.diagram.proofs.Bools.{split, to-T, and-r}
+use Rattle.table.specs.declared.Answer.{Answer}
+use Rattle.table.specs.declared.Answer.the-variants.{Done, ShortBuffer, NoTable}
+use Rattle.table.specs.declared.State.{State}
+use Rattle.table.specs.Answer.{done}
+use Rattle.table.specs.State.{orderOf, stageOf, isNothing}
+use Rattle.table.specs.Calls.{planeSize}
+use Rattle.fill.specs.Work.{workSize, zeroWork, clearedWork}
+use Rattle.fill.specs.Calls.{heldTable, enough, countAnswer, countWork, levelsOf, linksWork}
+use Rattle.fill.specs.inner.Filling.{filledWork, filledLevels, refusedLevels}
+use Rattle.fill.proofs.Buffers.Sizes.{sizes}
+use Rattle.fill.proofs.Calls.HeldFilling.{filled-past}
+
+module _ (s : State) (values care work : List ℕ) where
+  -- the answer
+
+  not-enough : enough values care work ≡ false → countAnswer s values care work ≡ ShortBuffer
+  unfolding countAnswer
+  not-enough e = rw e
+
+  pub short-values : length values < 2048 → countAnswer s values care work ≡ ShortBuffer
+  unfolding planeSize
+  short-values h = not-enough (rw (lt-leb 2048 (length values) h))
+
+  pub short-care : length care < 2048 → countAnswer s values care work ≡ ShortBuffer
+  unfolding planeSize
+  short-care h = not-enough (rw (lt-leb 2048 (length care) h) (and-false (leb 2048 (length values))))
+
+  pub short-work : length work < workSize → countAnswer s values care work ≡ ShortBuffer
+  unfolding planeSize workSize
+  short-work h =
+      not-enough
+      (rw (lt-leb workSize (length work) h)
+      (ap (λ (b : Bool). leb 2048 (length values) && b) (and-false (leb 2048 (length care))) ∙ and-false (leb 2048 (length values))))
+
+  module _ (v : 2048 ≤ length values) (c : 2048 ≤ length care) (w : workSize ≤ length work) where
+    is-enough : enough values care work ≡ true
+    unfolding planeSize workSize
+    is-enough = rw (le-leb 2048 (length values) v, le-leb 2048 (length care) c, le-leb workSize (length work) w)
+
+    pub no-table : not (isNothing (stageOf s)) ≡ false → countAnswer s values care work ≡ NoTable
+    unfolding countAnswer
+    no-table e = rw (is-enough, e)
+
+    pub counted : not (isNothing (stageOf s)) ≡ true → countAnswer s values care work ≡ Done (cost (heldTable s values care) (orderOf s))
+    unfolding countAnswer
+    counted e = rw (is-enough, e)
+
+    -- a held table is filled
+    pub links-filled : not (isNothing (stageOf s)) ≡ true
+        → (filledLevels s values care ≡ levelsOf s values care work) × (filledWork s values care work ≡ linksWork s values care work)
+    unfolding filledLevels filledWork levelsOf linksWork
+    links-filled e = let a = counted e in rw a (refl, refl)
+
+  -- a refusal leaves the work buffer
+  pub links-refused : (a : Answer) → countAnswer s values care work ≡ a → done a ≡ false
+      → (refusedLevels a ≡ levelsOf s values care work) × (work ≡ linksWork s values care work)
+  unfolding levelsOf linksWork
+  links-refused a e d = rw (e, d) (refl, refl)
+
+-- a work buffer made zero
+
+pub cleared-short : (work : List ℕ) → length work < workSize → work ≡ clearedWork work
+unfolding clearedWork workSize
+cleared-short work h = rw (lt-leb workSize (length work) h)
+
+pub cleared-zero : (work m : List ℕ) → workSize ≤ length work → m ≡ zeroWork work → m ≡ clearedWork work
+unfolding clearedWork workSize
+cleared-zero work m h e = rw (le-leb workSize (length work) h) e
+
+-- the work buffer after a count, by the answer
+
+pub levels-answer : (s : State) (values care work : List ℕ) → levelsOf s values care work .answer ≡ countAnswer s values care work
+unfolding levelsOf
+levels-answer s values care work = refl
+
+pub count-refused : (s : State) (values care work m : List ℕ) → done (countAnswer s values care work) ≡ false → m ≡ linksWork s values care work
+    → m ≡ countWork s values care work
+unfolding linksWork countWork
+count-refused s values care work m d e = e ∙ (rw d)
+
+-- a success: the table was held, and the work buffer had its size
+done-held : (s : State) (values care work : List ℕ) → done (countAnswer s values care work) ≡ true
+    → (workSize ≤ length work) × T (not (isNothing (stageOf s)))
+unfolding countAnswer workSize
+done-held s values care work d =
+    split (enough values care work)
+    (λ e. split (not (isNothing (stageOf s)))
+    (λ h. let a = leb planeSize (length values) in
+    let b = leb planeSize (length care) in
+    let c = leb workSize (length work) in
+    (leb→le workSize (length work) (and-r b c (and-r a (b && c) (to-T e))), to-T h))
+    (λ h. absurd (false≢true (rw (e, h) at d))))
+    (λ e. absurd (false≢true (rw e at d)))
+
+pub count-cleared : (s : State) (values care work m m′ : List ℕ) → done (countAnswer s values care work) ≡ true → m ≡ linksWork s values care work
+    → m′ ≡ clearedWork m → length m ≡ length work → m′ ≡ countWork s values care work
+unfolding linksWork countWork filledWork
+count-cleared s values care work m m′ d e q l =
+    let (big, held) = done-held s values care work d in
+    let f : m ≡ filledWork s values care work = rw d at e in
+    q
+    ∙ sym (cleared-zero m (zeroWork m) (omega sizes) refl)
+    ∙ ap zeroWork f
+    ∙ filled-past s values care held work big
+    ∙ (rw d)

@@ -1,0 +1,88 @@
+-- The filling of a held table, as the code goes through it: after level 0, after the way down, and after the cells are counted.
+-- Assumes nothing.
+use mathlib.Core.Path.{_≡_, refl, sym, ap, _∙_}
+use mathlib.Core.Bool.{true, not}
+use mathlib.Core.List.{List, [], _++_, sum}
+use mathlib.Core.Logic.{inl}
+use Prim.Native.Nat.{ℕ, _+_, _*_, _≤_}
+use lib.Dec.{T}
+use lib.ListN.{length, take}
+use Rattle.diagram.specs.Fill.{level, trace}
+use Rattle.diagram.specs.Network.{counts}
+use Rattle.diagram.specs.Table.{reordered, filled, cost}
+use Rattle.diagram.proofs.UpTo.{length-map-upTo}
+use Rattle.table.specs.declared.Answer.the-variants.{Done}
+use Rattle.table.specs.declared.State.{State}
+use Rattle.table.specs.State.{orderOf, stageOf, isNothing}
+use Rattle.table.proofs.Held.{few-inputs, few-outputs}
+use Rattle.fill.specs.Work.{workSize, linksAt, linkBytes, allLinks, zeroWork}
+use Rattle.fill.specs.inner.Level.{partsAt}
+use Rattle.fill.specs.Calls.{heldTable, drawnOutputs, perLevel}
+use Rattle.fill.specs.inner.Descent.{linksBelow, countsBelow, roomy, holding, linksUpTo}
+use Rattle.fill.specs.inner.Counts.{countsAt, linksEnd}
+use Rattle.fill.specs.inner.Filling.{firstWork, filledWork, filledLevels}
+use Rattle.fill.proofs.Buffers.Sizes.{sizes}
+use Rattle.fill.proofs.Buffers.HeldParts.{held-past, held-trace}
+use Rattle.fill.proofs.Calls.Filling.{trace-size, descend-asks, entries-filled, left-filled, counts-ask, counts-filled, cells-filled}
+
+module _ (s : State) (values care : List ℕ) (held : T (not (isNothing (stageOf s)))) where
+  outputs : length (drawnOutputs s values care) ≡ s .m
+  outputs = length-map-upTo (reordered (heldTable s values care) (orderOf s)) (s .m)
+
+  few : length (drawnOutputs s values care) ≤ 16
+  few = omega (sizes, outputs, few-outputs s held)
+
+  -- what lies past the work buffer's size is as it was
+  pub filled-past : (work : List ℕ) → workSize ≤ length work → zeroWork (filledWork s values care work) ≡ zeroWork work
+  unfolding filledWork
+  filled-past work big =
+      let kss = trace true (s .n) (drawnOutputs s values care) in
+      let size = trace-size (drawnOutputs s values care) (few-inputs s held) few in
+      ap zeroWork (sym (held-trace work big kss size))
+      ∙ held-past work big 2 0 [] (linkBytes (allLinks kss)) (tt, omega sizes) (inl refl) size
+
+  module _ (work : List ℕ) (big : workSize ≤ length work) (k : ℕ) (m : List ℕ)
+      (many : k ≡ length (level true [] (drawnOutputs s values care) .entries)) (is : m ≡ firstWork s values care work) where
+    ends : linksAt + 2 * s .m ≡ linksAt + 2 * length (drawnOutputs s values care)
+    ends = omega (sizes, outputs)
+
+    pub asks : (m ≡ holding 0 (partsAt (s .n) k 0 m) (linksUpTo (linksAt + 2 * s .m) m) m)
+        × (T (roomy (s .n) (partsAt (s .n) k 0 m)) × (linksAt + 2 * s .m + 2 * length (allLinks (linksBelow (s .n) (partsAt (s .n) k 0 m))) ≤ workSize))
+    unfolding firstWork
+    asks = descend-asks (drawnOutputs s values care) (few-inputs s held) few work big k (linksAt + 2 * s .m) m many ends is
+
+    module _ (entries m′ : List ℕ) (entries-are : entries ≡ perLevel (countsBelow (s .n) (partsAt (s .n) k 0 m)))
+        (left : m′
+        ≡ holding 0 [] (linksUpTo (linksAt + 2 * s .m) m ++ linkBytes (allLinks (linksBelow (s .n) (partsAt (s .n) k 0 m)))) m) where
+      pub left-held : m′ ≡ filledWork s values care work
+      unfolding firstWork filledWork
+      left-held =
+          left-filled (drawnOutputs s values care) (few-inputs s held) few work big k (linksAt + 2 * s .m) m many ends is entries m′ entries-are left
+
+      pub counts-room : linksEnd (linksAt + 2 * s .m) (take (s .n) entries) ≤ workSize
+      unfolding firstWork
+      counts-room =
+          counts-ask (drawnOutputs s values care) (few-inputs s held) few work big k (linksAt + 2 * s .m) m many ends is entries m′ entries-are left
+
+      module _ (cs : List ℕ) (counted : cs ≡ perLevel (countsAt m′ (linksAt + 2 * s .m) (take (s .n) entries))) where
+        counts-held : cs ≡ perLevel (counts true (s .n) (filled true (heldTable s values care) (orderOf s)))
+        unfolding firstWork filled
+        counts-held =
+            counts-filled (drawnOutputs s values care) (few-inputs s held) few work big k (linksAt + 2 * s .m) m many ends is entries m′ entries-are left
+            cs counted
+
+        cells : (sum _+_ 0 cs ≡ cost (heldTable s values care) (orderOf s)) × (sum _+_ 0 cs ≤ 65535)
+        unfolding filled cost
+        cells = cells-filled (drawnOutputs s values care) cs (few-inputs s held) few counts-held
+
+        pub cells-room : sum _+_ 0 cs ≤ 65535
+        cells-room = cells .1
+
+        pub levels-held : (n : ℕ) → n ≡ sum _+_ 0 cs → record { answer = Done n; entries = entries; counts = cs } ≡ filledLevels s values care
+        unfolding filledLevels firstWork
+        levels-held n e =
+            let a : n ≡ cost (heldTable s values care) (orderOf s) = e ∙ cells .0 in
+            let b = entries-filled (drawnOutputs s values care) (few-inputs s held) few work big k (linksAt + 2 * s .m) m
+            many ends is entries m′ entries-are left in
+            let c = counts-held in
+            rw (a, b, c)

@@ -1,0 +1,102 @@
+-- Cells counted from the links' bytes, pair by pair, level by level, and added up.
+-- Assumes nothing.
+use mathlib.Core.Path.{_≡_, refl, sym, ap, ap₂, _∙_}
+use mathlib.Core.Bool.{Bool, true, not}
+use mathlib.Core.List.{List, [], _∷_, _++_, sum, append-assoc, append-nil}
+use Prim.Native.Nat.{ℕ, _+_, _*_, _≤_, _<_}
+use native.Mathlib.Nat.{add-assoc, add-zero}
+use native.Mathlib.Numerals.{add-one}
+use native.Mathlib.Omega.{arith}
+use borrow.Author.Tests.{eq-eqb, ne-eqb}
+use lib.Dec.{eqb}
+use lib.ListN.{length, getD, take, drop, set, length-append, drop-of-length-le}
+use lib.Seq.{drop-cons}
+use Rattle.diagram.specs.Lists.{digit}
+use Rattle.table.proofs.Orders.{rest-cons, rest-none}
+use Rattle.fill.specs.Calls.{perLevel}
+use Rattle.fill.specs.inner.Counts.{pairDiffers, differingPairs, countsAt, linksEnd}
+use Rattle.fill.proofs.Counting.PerLevel.{per-level-more, sum-cons}
+
+-- one pair
+
+pub pair-low : (work : List ℕ) (a : ℕ) → (getD work a 0 ≡ getD work (a + 2) 0 → ⊥) → true ≡ pairDiffers work a
+unfolding pairDiffers
+pair-low work a d = rw (ne-eqb (getD work a 0) (getD work (a + 2) 0) d)
+
+pub pair-high : (work : List ℕ) (a : ℕ) → getD work a 0 ≡ getD work (a + 2) 0
+    → not (eqb (getD work (a + 1) 0) (getD work (a + 3) 0)) ≡ pairDiffers work a
+unfolding pairDiffers
+pair-high work a e = rw (eq-eqb (getD work a 0) (getD work (a + 2) 0) e)
+
+-- one pair more
+
+pub pairs-more : (work : List ℕ) (at e n x : ℕ) (b : Bool) → n ≡ differingPairs work at e → b ≡ pairDiffers work (at + 4 * e) → x ≡ digit b
+    → n + x ≡ differingPairs work at (e + 1)
+pairs-more work at e n x b p q r = ap₂ _+_ p (r ∙ ap digit q) ∙ ap (differingPairs work at) (sym (add-one e))
+
+-- one level more: of the levels' numbers of entries `entries`, those from level p on are left, and their links begin at `at`
+
+pub end-behind : (at : ℕ) (ks : List ℕ) → at ≤ linksEnd at ks
+end-behind at [] = omega arith
+end-behind at (k ∷ ks) = omega (arith, end-behind (at + 4 * k) ks)
+
+pub record Counting (work : List ℕ) (start n : ℕ) (entries : List ℕ) (p at : ℕ) (counts : List ℕ) : Type 0 where
+  pub passed : List ℕ
+  pub all-counts : passed ++ countsAt work at (drop p (take n entries)) ≡ countsAt work start (take n entries)
+  pub levels : length passed ≡ p
+  pub ends : linksEnd at (drop p (take n entries)) ≡ linksEnd start (take n entries)
+  pub recorded : counts ≡ perLevel passed
+
+module _ (work : List ℕ) (start n : ℕ) (entries : List ℕ) (fits : n ≤ length entries) where
+  pub counting-first : Counting work start n entries 0 start (perLevel [])
+  counting-first = record { passed = []; all-counts = refl; levels = refl; ends = refl; recorded = refl }
+
+  pub counting-last : (p at : ℕ) (counts : List ℕ) → p ≡ n → Counting work start n entries p at counts
+      → counts ≡ perLevel (countsAt work start (take n entries))
+  counting-last p at counts e c =
+      let none : drop p (take n entries) ≡ [] = rest-none entries n p fits (omega arith) in
+      c .recorded
+      ∙ ap perLevel (sym (append-nil (c .passed)) ∙ ap (λ (ks : List ℕ). c .passed ++ countsAt work at ks) (sym none) ∙ c .all-counts)
+
+  module _ (p at : ℕ) (counts : List ℕ) (more : p < n) (c : Counting work start n entries p at counts) where
+    here : drop p (take n entries) ≡ getD entries p 0 ∷ drop (p + 1) (take n entries)
+    here = rest-cons entries n p fits more ∙ ap (λ (j : ℕ). getD entries p 0 ∷ drop j (take n entries)) (sym (add-one p))
+
+    ends-here : linksEnd (at + 4 * getD entries p 0) (drop (p + 1) (take n entries)) ≡ linksEnd start (take n entries)
+    ends-here = ap (linksEnd at) (sym here) ∙ c .ends
+
+    pub counting-room : at + 4 * getD entries p 0 ≤ linksEnd start (take n entries)
+    counting-room = omega (arith, ends-here, end-behind (at + 4 * getD entries p 0) (drop (p + 1) (take n entries)))
+
+    pub counting-on : (x : ℕ) (counts′ : List ℕ) → n ≤ 10 → x ≡ differingPairs work at (getD entries p 0) → counts′ ≡ set counts p x
+        → Counting work start n entries (p + 1) (at + 4 * getD entries p 0) counts′
+    counting-on x counts′ small e q =
+        let k = getD entries p 0 in
+        let rest = drop (p + 1) (take n entries) in
+        record {
+          passed = c .passed ++ (x ∷ []);
+          all-counts =
+              append-assoc (c .passed) (x ∷ []) (countsAt work (at + 4 * k) rest)
+              ∙ ap (λ (y : ℕ). c .passed ++ (y ∷ countsAt work (at + 4 * k) rest)) e
+              ∙ ap (λ (ks : List ℕ). c .passed ++ countsAt work at ks) (sym here)
+              ∙ c .all-counts;
+          levels = length-append (c .passed) (x ∷ []) ∙ ap (λ (y : ℕ). y + 1) (c .levels);
+          ends = ends-here;
+          recorded = q ∙ per-level-more (c .passed) x p counts (sym (c .levels)) (omega (arith, c .levels)) (c .recorded);
+        }
+
+-- all added up
+
+module _ (counts : List ℕ) (cells p : ℕ) (so-far : cells + sum _+_ 0 (drop p counts) ≡ sum _+_ 0 counts) where
+  pub sum-more : p < length counts → (cells + getD counts p 0) + sum _+_ 0 (drop (p + 1) counts) ≡ sum _+_ 0 counts
+  sum-more h =
+      add-assoc cells (getD counts p 0) (sum _+_ 0 (drop (p + 1) counts))
+      ∙ ap (λ (y : ℕ). cells + y)
+      (sym (ap (sum _+_ 0) (drop-cons counts p 0 h ∙ ap (λ (j : ℕ). getD counts p 0 ∷ drop j counts) (sym (add-one p)))
+      ∙ sum-cons (getD counts p 0) (drop (p + 1) counts)))
+      ∙ so-far
+
+  pub sum-all : length counts ≤ p → cells ≡ sum _+_ 0 counts
+  unfolding sum
+  sum-all h =
+      sym (add-zero cells) ∙ ap (λ (xs : List ℕ). cells + sum _+_ 0 xs) (sym (drop-of-length-le counts {i = p} h)) ∙ so-far

@@ -1,0 +1,3 @@
+pub mod LevelsBelow
+pub mod TreeDescent
+pub mod WayDown

@@ -1,0 +1,106 @@
+-- A candidate linked in the work buffer: the half that is one, the region lent, and what is asked and left.
+-- Assumes nothing.
+use mathlib.Core.Path.{_≡_, sym, ap, ap₂, _∙_, subst, subst₂}
+use mathlib.Core.Bool.{Bool}
+use mathlib.Core.List.{List, [], _∷_, _++_, append-assoc}
+use Prim.Native.Nat.{ℕ, suc, _+_, _*_, _-_, _/_, _%_, _≤_, _<_}
+use native.Mathlib.Nat.{mul-le-mul-right}
+use native.Mathlib.Numerals.{add-one}
+use native.Mathlib.Omega.{arith}
+use lib.ListN.{length, take, drop, length-drop, take-append-drop}
+use lib.Seq.{length-take-le, take-at, drop-append-le, drop-drop}
+use Rattle.reorder.specs.Sizes.{width}
+use Rattle.fill.specs.inner.Parts.{candidatePart, levelParts, chunks, flat, halfPart}
+use Rattle.fill.specs.Work.{regionSize, linkNumber}
+use Rattle.fill.specs.inner.Splice.{splice}
+use Rattle.fill.specs.inner.Level.{partAt, partsAt, written}
+use Rattle.fill.proofs.Buffers.Chunks.{length-chunks}
+use Rattle.fill.proofs.Parts.PartHalves.{width-pos, length-half}
+use Rattle.fill.proofs.Linking.Along.{Shown}
+use Rattle.fill.proofs.Buffers.PartLengths.{Long, Grown, long-chunks, length-flat, chunks-take, candidate-grown}
+
+-- the part that is lent for its half, and the half in the candidate's buffer
+
+pub part-is : (d a v : ℕ) (work : List ℕ) → v ≡ width (d + 1) → take (a + (v + v) - a) (drop a work) ≡ partAt (suc d) a work
+part-is d a v work e =
+    let f : v ≡ width (suc d) = e ∙ ap width (add-one d) in
+    let n : a + (v + v) - a ≡ width (suc d) + width (suc d) = omega arith in
+    ap (λ (y : ℕ). take y (drop a work)) n
+
+pub length-part : (d a : ℕ) (work : List ℕ) → a + (width d + width d) ≤ length work → length (partAt d a work) ≡ width d + width d
+length-part d a work h = length-take-le (width d + width d) (drop a work) (omega (arith, length-drop a work))
+
+-- what lies at the front of the candidate's buffer, where a half was taken to it
+pub half-is : (b : Bool) (d a v s : ℕ) (work part part′ : List ℕ) → v ≡ width (d + 1) → s ≡ width d + width d
+    → a + (width (suc d) + width (suc d)) ≤ length work
+    → part′ ≡ halfPart b d (take (a + (v + v) - a) (drop a work)) ++ drop (width d + width d) part
+    → take s part′ ≡ halfPart b d (partAt (suc d) a work)
+half-is b d a v s work part part′ p q h e =
+    let x = halfPart b d (partAt (suc d) a work) in
+    ap (take s) (e ∙ ap (λ (y : List ℕ). halfPart b d y ++ drop (width d + width d) part) (part-is d a v work p))
+    ∙ take-at x (drop (width d + width d) part) s (length-half b d (partAt (suc d) a work) (length-part (suc d) a work h) ∙ sym q)
+
+-- a candidate is linked in a region of n bytes that is lent: R is the region when it is back
+region-back : (work x : List ℕ) (to n m : ℕ) → length x ≡ m → m ≤ n → to + n ≤ length work
+    → take to work ++ ((x ++ drop m (take n (drop to work))) ++ drop n (drop to work)) ≡ splice work to x
+unfolding splice
+region-back work x to n m e h i =
+    let r = drop to work in
+    let l : n ≤ length r = omega (arith, length-drop to work) in
+    ap (λ (y : List ℕ). take to work ++ y)
+    (append-assoc x (drop m (take n r)) (drop n r)
+    ∙ ap (λ (y : List ℕ). x ++ y)
+    (sym (drop-append-le m (take n r) (drop n r) (omega (arith, length-take-le n r l)))
+    ∙ ap (drop m) (take-append-drop n r)
+    ∙ drop-drop m to work
+    ∙ ap (λ (y : ℕ). drop (to + y) work) (sym e)))
+
+module _ (d k to : ℕ) (f work : List ℕ) (long : length f ≡ width d + width d) (room : (k + 1) * (width d + width d) ≤ regionSize)
+    (in-work : to + regionSize ≤ length work) where
+  among-long : Long (width d + width d) (partsAt d k to work)
+  among-long = long-chunks (width d + width d) k (drop to work) (omega (arith, length-drop to work))
+
+  grown : Grown (width d + width d) 1 (partsAt d k to work) (candidatePart (width d) f (partsAt d k to work) .parts)
+  grown = candidate-grown (width d) f (partsAt d k to work) long among-long
+
+  linked-core : (l entries link : ℕ) (region after : List ℕ)
+      → Shown (width d + width d) (take regionSize (drop to work)) (candidatePart (width d) f (partsAt d k to work)) entries link region
+      → after ≡ splice (take to work ++ (region ++ drop regionSize (drop to work))) l (link % 256 ∷ link / 256 % 256 ∷ [])
+      → (entries ≡ length (levelParts (width d) (partsAt d k to work) (f ∷ []) .parts))
+      × (after ≡ written (levelParts (width d) (partsAt d k to work) (f ∷ [])) to l work)
+  unfolding levelParts written
+  linked-core l entries link region after h e =
+      let s = width d + width d in
+      let p = candidatePart (width d) f (partsAt d k to work) in
+      let c : length (p .parts) ≤ k + 1 = omega (arith, grown, length-chunks s k (drop to work)) in
+      let m : length (p .parts) * s ≤ regionSize = omega (arith, mul-le-mul-right s c) in (
+        h .0,
+        e
+            ∙ ap₂ (λ (y : List ℕ) (n : ℕ). splice (take to work ++ (y ++ drop regionSize (drop to work))) l (n % 256 ∷ n / 256 % 256 ∷ [])) (h .1 .1) (h .1 .0)
+            ∙ ap (λ (y : List ℕ). splice y l (linkNumber (p .link) % 256 ∷ linkNumber (p .link) / 256 % 256 ∷ []))
+            (region-back work (flat (p .parts)) to regionSize (length (p .parts) * s) (length-flat s (p .parts) (grown .0)) m in-work),
+      )
+
+  -- the same, from what code computes: w bytes of values, n bytes lent
+  pub linked-part : (w n l entries link : ℕ) (region after : List ℕ) → w ≡ width d → n ≡ regionSize
+      → Shown (w + w) (take n (drop to work)) (candidatePart w f (chunks (w + w) k (take n (drop to work)))) entries link region
+      → after ≡ splice (take to work ++ (region ++ drop n (drop to work))) l (link % 256 ∷ link / 256 % 256 ∷ [])
+      → (entries ≡ length (levelParts (width d) (partsAt d k to work) (f ∷ []) .parts))
+      × (after ≡ written (levelParts (width d) (partsAt d k to work) (f ∷ [])) to l work)
+  linked-part w n l entries link region after p q h e =
+      let s = width d + width d in
+      let a : Shown s (take regionSize (drop to work)) (candidatePart (width d) f (chunks s k (take regionSize (drop to work)))) entries link region =
+      subst₂ (λ (w n : ℕ). Shown (w + w) (take n (drop to work)) (candidatePart w f (chunks (w + w) k (take n (drop to work)))) entries link region)
+      p q h in
+      linked-core l entries link region after
+      (subst (λ (y : List (List ℕ)). Shown s (take regionSize (drop to work)) (candidatePart (width d) f y) entries link region)
+      (chunks-take s k regionSize (drop to work) (omega arith)) a)
+      (e ∙ ap (λ (y : ℕ). splice (take to work ++ (region ++ drop y (drop to work))) l (link % 256 ∷ link / 256 % 256 ∷ [])) q)
+
+-- what linking asks
+pub linked-asks : (d k to w n : ℕ) (g work : List ℕ) → w ≡ width d → n ≡ regionSize → length g ≡ width d + width d
+    → (k + 1) * (width d + width d) ≤ regionSize → to + regionSize ≤ length work
+    → (0 < w) × ((length g ≡ w + w) × ((k + 1) * (w + w) ≤ length (take n (drop to work))))
+linked-asks d k to w n g work p q h r i =
+    let s : (k + 1) * (w + w) ≤ regionSize = subst (λ (y : ℕ). (k + 1) * (y + y) ≤ regionSize) (sym p) r in
+    (omega (arith, width-pos d), (omega arith, omega (arith, length-take-le n (drop to work) (omega (arith, length-drop to work)))))

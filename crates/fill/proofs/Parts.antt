@@ -1,0 +1,6 @@
+pub mod Blockwise
+pub mod PartHalves
+pub mod PartMerge
+pub mod Planes
+pub mod TreeHalves
+pub mod TreeTests

@@ -1,0 +1,40 @@
+// A candidate linked: its part goes among the entries of a region, and its link's number behind the regions.
+use crate::REGION;
+use crate::entries::candidate;
+use reorder::width::width_of;
+ghost use mathlib.Core.Path.{_≡_};
+ghost use mathlib.Core.List.{[], _∷_};
+ghost use Prim.Native.Nat.{_+_, _*_, _/_, _%_, _≤_};
+ghost use lib.ListN.{length};
+ghost use Rattle.diagram.specs.Bound.{mostVariables};
+ghost use Rattle.reorder.specs.Sizes.{width};
+ghost use Rattle.fill.specs.Work.{regionSize};
+ghost use Rattle.fill.specs.inner.Splice.{splice};
+ghost use Rattle.fill.specs.inner.Parts.{levelParts};
+ghost use Rattle.fill.specs.inner.Level.{partsAt, written};
+
+// Writes a link's number as two bytes, the low one first.
+pub(crate) fn put_link(link: usize, work: &mut [u8], k: usize)
+    requires { ⌜ k + 2 ≤ length (now work) ⌝ }
+    ensures { λ _. ⌜ now (work .exit) ≡ splice (now (work .entry)) k (link % 256 ∷ link / 256 % 256 ∷ []) ⌝ }
+{
+    let next = k + 1;
+    work[k] = (link % 256) as u8;
+    work[next] = (link / 256 % 256) as u8;
+}
+
+// Links the candidate f of d variables among the k entries at to, and writes its link at l. Returns the number of entries.
+pub(crate) fn link_part(d: usize, f: &[u8], to: usize, k: usize, l: usize, work: &mut [u8]) -> usize
+    requires { ⌜ (d ≤ mostVariables) × (length (now f) ≡ width d + width d) ⌝ }
+    requires { ⌜ (to + regionSize ≤ length (now work)) × ((k + 1) * (width d + width d) ≤ regionSize) ⌝ }
+    requires { ⌜ l + 2 ≤ length (now work) ⌝ }
+    ensures entries { λ r. ⌜ r ≡ length (levelParts (width d) (partsAt d k to (now (work .entry))) (now (f .entry) ∷ []) .parts) ⌝ }
+    ensures work { λ _. ⌜ now (work .exit)
+        ≡ written (levelParts (width d) (partsAt d k to (now (work .entry))) (now (f .entry) ∷ [])) to l (now (work .entry)) ⌝ }
+{
+    let w = width_of(d);
+    let stop = to + REGION;
+    let linked = candidate(w, f, &mut work[to..stop], k);
+    put_link(linked.link, work, l);
+    linked.entries
+}
