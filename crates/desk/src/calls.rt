@@ -1,6 +1,7 @@
 // The calls, one a word, on the table at the desk.
 use crate::command::Command;
 use crate::show;
+use diagram::NODES;
 use fill::count;
 use network::build::build;
 use network::evaluate::evaluate;
@@ -9,12 +10,10 @@ use sift::single::sift;
 use table::Outcome;
 use table::State;
 use table::swap::swap;
-use text::word::Number;
-use text::word::number_in;
+use text::word::Decimal;
+use text::word::decimal_in;
 
-// The most cells, and the largest number of a word.
-pub(crate) const CELLS: usize = 2159;
-
+// The largest number of a word.
 const LARGEST: u32 = 4294967295;
 
 // What is at the desk: the state, the board for the builds that follow, the word that waits for its number, and whether a word was wrong.
@@ -29,7 +28,7 @@ pub(crate) struct Desk {
 pub(crate) fn opened(state: State) -> Desk {
     Desk {
         state,
-        board: CELLS,
+        board: NODES,
         waiting: Command::None,
         ended: false,
     }
@@ -97,7 +96,7 @@ fn with_board(desk: Desk, board: usize) -> Desk {
 // The largest number that a word takes.
 fn largest(command: Command) -> u32 {
     match command {
-        Command::Board => CELLS as u32,
+        Command::Board => NODES as u32,
         _ => LARGEST,
     }
 }
@@ -112,10 +111,10 @@ fn built(
     cells: &mut [u16],
 ) -> Desk {
     let state = desk.state;
-    let end = if desk.board < CELLS {
+    let end = if desk.board < NODES {
         3 * desk.board
     } else {
-        3 * CELLS
+        3 * NODES
     };
     if end <= cells.len() {
         return said(
@@ -166,7 +165,7 @@ pub(crate) fn second(
     roots: &[u16],
     cells: &[u16],
 ) -> Desk {
-    let Number::Is(x) = number_in(word, largest(command)) else {
+    let Decimal::Is(x) = decimal_in(word, largest(command)) else {
         return bad(desk, k);
     };
     let state = desk.state;

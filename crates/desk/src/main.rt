@@ -3,19 +3,19 @@ mod calls;
 mod command;
 mod show;
 
-use calls::CELLS;
 use calls::Desk;
 use command::Command;
 use fill::WORK;
 use libc::STDIN_FILENO;
 use network::ROOTS;
+use printed::input::LONGEST;
+use printed::input::load_input;
+use printed::output::CELLS;
 use show::answer;
 use show::number;
 use table::Answer;
 use table::PLANE;
 use table::load::unloaded;
-use text::input::LONGEST;
-use text::input::load_input;
 
 // The longest word that is read whole.
 const WORD: usize = 4096;
@@ -81,7 +81,7 @@ fn main() {
     let mut care = [0u8; PLANE];
     let mut work = [0u8; WORK];
     let mut roots = [0u16; ROOTS];
-    let mut cells = [0u16; 3 * CELLS];
+    let mut cells = [0u16; CELLS];
     let length = io::read_full(STDIN_FILENO, &mut file);
     let outcome = load_input(unloaded(), &file[..length], &mut values, &mut care);
     let loaded = outcome.answer;

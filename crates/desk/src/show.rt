@@ -2,6 +2,7 @@
 use diagram::VARIABLES;
 use libc::STDOUT_FILENO;
 use network::evaluate::evaluate;
+use printed::output::TEXT;
 use table::Answer;
 use table::Stage;
 use table::State;
@@ -11,10 +12,8 @@ use text::line::number_line;
 use text::line::order_line;
 use text::line::row_line;
 
-// The bytes of a line, and of the lines of the largest network.
+// The bytes of a line.
 const LINE: usize = 128;
-
-const LINES: usize = 65536;
 
 // Writes the first bytes of a text.
 fn write(text: &[u8], length: usize) {
@@ -52,7 +51,7 @@ pub(crate) fn stage(state: State) {
 }
 
 pub(crate) fn cells(state: State, roots: &[u16], cells: &[u16]) {
-    let mut lines = [0u8; LINES];
+    let mut lines = [0u8; TEXT];
     let length = held_lines(&mut lines, state, roots, cells);
     write(&lines, length);
 }

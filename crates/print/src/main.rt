@@ -3,14 +3,11 @@ use fill::WORK;
 use libc::STDIN_FILENO;
 use libc::STDOUT_FILENO;
 use network::ROOTS;
+use printed::input::LONGEST;
+use printed::output::CELLS;
+use printed::output::TEXT;
+use printed::output::print_table;
 use table::PLANE;
-use text::input::LONGEST;
-use text::printed::printed;
-
-// The numbers of the 2,159 cells that are ever needed, and the bytes that any text fits in.
-const CELLS: usize = 3 * 2159;
-
-const TEXT: usize = 65536;
 
 fn main() {
     // One byte more than the longest input, to see that there is more.
@@ -22,7 +19,7 @@ fn main() {
     let mut cells = [0u16; CELLS];
     let mut out = [0u8; TEXT];
     let length = io::read_full(STDIN_FILENO, &mut file);
-    let end = printed(
+    let end = print_table(
         &file[..length],
         &mut values,
         &mut care,

@@ -1,12 +1,5 @@
 pub mod Writing
 pub mod Digits
 pub mod Lines
-pub mod Inputs
-pub mod Printing
 pub mod Words
-pub mod Loaded
-pub mod Whole
-pub mod Small
-pub mod Fits
-pub mod Uncut
 pub mod ReadBack

@@ -10,7 +10,32 @@ use Rattle.table.specs.declared.State.{State}
 use Rattle.table.specs.State.{stageOf, isNetwork}
 use Rattle.table.specs.declared.Answer.{Answer}
 use Rattle.table.specs.Answer.{number, value}
-use Rattle.text.specs.Text.{inputs-word, outputs-word, order-word, cared-word, cells-word, cell-word, root-word, row-word, spaced, joined, line, orderLine, nodeText, cellLine, rootLine, networkLines, heldLines, stateOrder, totalLines, headingLines, networkText, answered, answerLine, rowLine}
+use Rattle.text.specs.Text.{
+  inputs-word,
+  outputs-word,
+  order-word,
+  cared-word,
+  cells-word,
+  cell-word,
+  root-word,
+  row-word,
+  spaced,
+  inTurn,
+  line,
+  orderLine,
+  nodeText,
+  cellLine,
+  rootLine,
+  networkLines,
+  heldLines,
+  stateOrder,
+  totalLines,
+  headingLines,
+  networkText,
+  answered,
+  answerLine,
+  rowLine,
+}
 use Rattle.text.specs.Written.{Written}
 use Rattle.text.proofs.Writing.{written-then, written-as, written-nothing}
 
@@ -57,11 +82,11 @@ pub written-root : {l m n o z : List ℕ} {i j k q t : ℕ} (roots : List ℕ) (
 unfolding rootLine
 written-root roots p a f u v w e = written-then u (written-then v (written-then (spaced-as f w) e))
 
-pub written-order : {l m n o : List ℕ} {i j k q : ℕ} (s : State) (a : ℕ) → a ≡ min (s .n) 10 → Written l m i j order-word
-    → Written m n j k (joined (λ p. spaced (getD (s .order) p 0)) a) → Written n o k q (10 ∷ []) → Written l o i q (stateOrder s)
+pub written-order : {l m n o : List ℕ} {i j k q : ℕ} (s : State) (a : ℕ) → a ≡ min (s .n) mostVariables → Written l m i j order-word
+    → Written m n j k (inTurn (λ p. spaced (getD (s .order) p 0)) a) → Written n o k q (10 ∷ []) → Written l o i q (stateOrder s)
 unfolding stateOrder orderLine
 written-order s a e u v w =
-    written-then u (written-then (written-as (ap (joined (λ p. spaced (getD (s .order) p 0))) e) v) w)
+    written-then u (written-then (written-as (ap (inTurn (λ p. spaced (getD (s .order) p 0))) e) v) w)
 
 pub written-unheld : {l : List ℕ} {i : ℕ} (s : State) (roots cells : List ℕ) (b : Bool) → b ≡ isNetwork (stageOf s) → b ≡ false
     → i ≤ length l → Written l l i i (heldLines s roots cells)
@@ -69,7 +94,7 @@ unfolding heldLines
 written-unheld s roots cells b p e h = rw (sym p ∙ e) (written-nothing h)
 
 pub written-held : {l m n : List ℕ} {i j k : ℕ} (s : State) (roots cells : List ℕ) (b : Bool) → b ≡ isNetwork (stageOf s) → b ≡ true
-    → Written l m i j (joined (cellLine cells) (min (s .count) (length cells / 3))) → Written m n j k (joined (rootLine roots) (s .m))
+    → Written l m i j (inTurn (cellLine cells) (min (s .count) (length cells / 3))) → Written m n j k (inTurn (rootLine roots) (s .m))
     → Written l n i k (heldLines s roots cells)
 unfolding heldLines networkLines
 written-held s roots cells b p e u v = rw (sym p ∙ e) (written-then u v)

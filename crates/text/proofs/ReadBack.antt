@@ -1,18 +1,18 @@
 -- A number's text reads back as that number: twenty digits are enough for it.
 -- Assumes nothing.
-use mathlib.Core.Path.{_≡_, refl, sym, ap, _∙_}
+use mathlib.Core.Path.{_≡_, refl, _∙_}
 use mathlib.Core.List.{List, [], _∷_, _++_}
-use Prim.Native.Nat.{ℕ, zero, suc, _+_, _*_, _-_, _/_, _%_, _^_, _≤_, _<_}
+use Prim.Native.Nat.{ℕ, zero, suc, _+_, _*_, _-_, _/_, _%_, _^_, _<_}
 use native.Mathlib.Omega.{arith}
-use borrow.Author.Tests.{le-leb, lt-ltb, le-ltb}
-use lib.Dec.{ltb, ltb→lt, nltb→le}
+use borrow.Author.Tests.{le-leb}
+use lib.Dec.{ltb, ltb→lt}
 use Rattle.diagram.proofs.Bools.{split}
 use Rattle.text.specs.Text.{digits, decimal}
 use Rattle.text.specs.Word.{digitOf, readOn}
 
-read-more : (v : ℕ) (xs : List ℕ) (b : ℕ) → readOn v (xs ++ (b ∷ [])) ≡ 10 * readOn v xs + digitOf b
-read-more v [] b = refl
-read-more v (x ∷ xs) b = read-more (10 * v + digitOf x) xs b
+read-last : (v : ℕ) (xs : List ℕ) (b : ℕ) → readOn v (xs ++ (b ∷ [])) ≡ 10 * readOn v xs + digitOf b
+read-last v [] b = refl
+read-last v (x ∷ xs) b = read-last (10 * v + digitOf x) xs b
 
 last-digit : (x : ℕ) → digitOf (48 + x % 10) ≡ x % 10
 unfolding digitOf
@@ -29,7 +29,7 @@ digits-back (suc f) x h =
     (λ e. rw e
     (let k : x / 10 < 10 ^ suc f = omega (arith, h) in
     let r : readOn 0 (digits f (x / 10)) ≡ x / 10 = digits-back f (x / 10) k in
-    read-more 0 (digits f (x / 10)) (48 + x % 10) ∙ omega (arith, r, last-digit x)))
+    read-last 0 (digits f (x / 10)) (48 + x % 10) ∙ omega (arith, r, last-digit x)))
 
 pub decimal-back : (x : ℕ) → x < 10 ^ 20 → readOn 0 (decimal x) ≡ x
 unfolding decimal

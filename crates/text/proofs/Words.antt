@@ -13,8 +13,8 @@ use lib.ListN.{length, drop, getD}
 use lib.Seq.{drop-cons, drop-length}
 use Rattle.diagram.specs.Lists.{all}
 use Rattle.diagram.proofs.Bools.{split}
-use Rattle.text.specs.declared.word.Number.the-variants.{Is, Wrong}
-use Rattle.text.specs.Word.{sameBytes, digitOf, isDigit, readOn, numberIn}
+use Rattle.text.specs.declared.word.Decimal.the-variants.{Is, Wrong}
+use Rattle.text.specs.Word.{sameBytes, digitOf, isDigit, readOn, decimalIn}
 
 pub digit-low : (b : ℕ) → b < 48 → (10 ≡ digitOf b) × (10 ≤ 10)
 unfolding digitOf
@@ -77,8 +77,8 @@ grows value (b ∷ bs) = let h = grows (10 * value + digitOf b) bs in omega arit
 pub read-none : (word : List ℕ) → ReadTo word 0 0
 read-none word = record { digits = refl; stands = refl }
 
-pub empty-word : (word : List ℕ) (most : ℕ) → length word ≡ 0 → Wrong ≡ numberIn word most
-unfolding numberIn
+pub empty-word : (word : List ℕ) (most : ℕ) → length word ≡ 0 → Wrong ≡ decimalIn word most
+unfolding decimalIn
 empty-word word most e = rw (e) refl
 
 module _ (word : List ℕ) (i value most : ℕ) (so-far : ReadTo word i value) where
@@ -91,15 +91,15 @@ module _ (word : List ℕ) (i value most : ℕ) (so-far : ReadTo word i value) w
         so-far .stands ∙ ap (readOn value) (rest word i h)
         ∙ ap (λ (k : ℕ). readOn (10 * value + k) (drop (i + 1) word)) (sym e)
 
-    pub no-digit : d ≡ 10 → Wrong ≡ numberIn word most
-    unfolding numberIn
+    pub no-digit : d ≡ 10 → Wrong ≡ decimalIn word most
+    unfolding decimalIn
     no-digit t =
         let n : isDigit (getD word i 0) ≡ false = le-ltb (digitOf (getD word i 0)) 10 (omega (arith, e, t)) in
         let a : all isDigit word ≡ false = digits-on ∙ ap (λ (b : Bool). b && all isDigit (drop (i + 1) word)) n in
         rw (lt-ltb 0 (length word) (omega (arith, h)), a) refl
 
-    pub too-large : most < 10 * value + d → Wrong ≡ numberIn word most
-    unfolding numberIn
+    pub too-large : most < 10 * value + d → Wrong ≡ decimalIn word most
+    unfolding decimalIn
     too-large k =
         let g = grows (10 * value + d) (drop (i + 1) word) in
         let t : leb (readOn 0 word) most ≡ false = lt-leb (readOn 0 word) most (omega (arith, k, g, stands-on)) in
@@ -111,8 +111,8 @@ module _ (word : List ℕ) (i value most : ℕ) (so-far : ReadTo word i value) w
         let n : isDigit (getD word i 0) ≡ true = lt-ltb (digitOf (getD word i 0)) 10 (omega (arith, e, f, k)) in
         record { digits = digits-on ∙ ap (λ (b : Bool). b && all isDigit (drop (i + 1) word)) n; stands = stands-on }
 
-  pub read-all : 0 < length word → i ≤ length word → length word ≤ i → value ≤ most → Is value ≡ numberIn word most
-  unfolding numberIn
+  pub read-all : 0 < length word → i ≤ length word → length word ≤ i → value ≤ most → Is value ≡ decimalIn word most
+  unfolding decimalIn
   read-all p h k q =
       let a : all isDigit word ≡ true = so-far .digits ∙ ap (all isDigit) (none word i h k) in
       let v : readOn 0 word ≡ value = so-far .stands ∙ ap (readOn value) (none word i h k) in

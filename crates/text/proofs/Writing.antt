@@ -10,7 +10,7 @@ use lib.Dec.{ltb, ltb→lt, nltb→le}
 use lib.ListN.{length, set, length-append, take, getD}
 use lib.Seq.{sets, set-out, length-sets, take-suc, take-all}
 use Rattle.diagram.proofs.Bools.{split}
-use Rattle.text.specs.Text.{joined}
+use Rattle.text.specs.Text.{inTurn}
 use Rattle.text.specs.Written.{Written}
 
 sets-append : {A : Type 0} (l : List A) (i : ℕ) (xs ys : List A) → sets (sets l i xs) (i + length xs) ys ≡ sets l i (xs ++ ys)
@@ -63,28 +63,29 @@ pub written-length : {l m : List ℕ} {i j : ℕ} {xs : List ℕ} → Written l 
 written-length {l} {m} {i} {j} {xs} w = ap length (w .content) ∙ length-sets l i xs
 
 -- a word, one byte more, and the whole word
-pub written-word : {l m n : List ℕ} {i j k : ℕ} (w : List ℕ) (p : ℕ) → p < length w → Written l m i j (take p w) → Written m n j k (getD w p 0 ∷ [])
-    → Written l n i k (take (p + 1) w)
+pub written-word : {l m n : List ℕ} {i j k : ℕ} (w : List ℕ) (p : ℕ) → p < length w → Written l m i j (take p w)
+    → Written m n j k (getD w p 0 ∷ []) → Written l n i k (take (p + 1) w)
 written-word w p h u v =
     written-as (sym (take-suc w p 0 h) ∙ ap (λ (q : ℕ). take q w) (sym (add-one p))) (written-then u v)
 
-pub written-whole : {l m : List ℕ} {i j : ℕ} (w : List ℕ) (p : ℕ) → p ≤ length w → length w ≤ p → Written l m i j (take p w) → Written l m i j w
+pub written-whole : {l m : List ℕ} {i j : ℕ} (w : List ℕ) (p : ℕ) → p ≤ length w → length w ≤ p → Written l m i j (take p w)
+    → Written l m i j w
 written-whole w p h k u = written-as (take-all p w k) u
 
 -- texts of a run, one more
-pub written-more : {l m n : List ℕ} {i j k : ℕ} (f : ℕ → List ℕ) (p : ℕ) → Written l m i j (joined f p) → Written m n j k (f p)
-    → Written l n i k (joined f (p + 1))
-written-more f p u v = written-as (ap (joined f) (sym (add-one p))) (written-then u v)
+pub written-more : {l m n : List ℕ} {i j k : ℕ} (f : ℕ → List ℕ) (p : ℕ) → Written l m i j (inTurn f p) → Written m n j k (f p)
+    → Written l n i k (inTurn f (p + 1))
+written-more f p u v = written-as (ap (inTurn f) (sym (add-one p))) (written-then u v)
 
 -- the run of as many texts as are meant
-pub written-joined : {l m : List ℕ} {i j : ℕ} (f : ℕ → List ℕ) (p q : ℕ) → p ≤ q → q ≤ p → Written l m i j (joined f p)
-    → Written l m i j (joined f q)
-written-joined f p q h k w = let e : p ≡ q = omega arith in written-as (ap (joined f) e) w
+pub written-in-turn : {l m : List ℕ} {i j : ℕ} (f : ℕ → List ℕ) (p q : ℕ) → p ≤ q → q ≤ p → Written l m i j (inTurn f p)
+    → Written l m i j (inTurn f q)
+written-in-turn f p q h k w = let e : p ≡ q = omega arith in written-as (ap (inTurn f) e) w
 
-pub written-first : {l m : List ℕ} {i j : ℕ} (f : ℕ → List ℕ) (p a b : ℕ) → p ≤ a → a ≤ p → p ≤ b → Written l m i j (joined f p)
-    → Written l m i j (joined f (min a b))
-written-first f p a b g h k w = written-joined f p (min a b) (omega arith) (omega arith) w
+pub written-first : {l m : List ℕ} {i j : ℕ} (f : ℕ → List ℕ) (p a b : ℕ) → p ≤ a → a ≤ p → p ≤ b → Written l m i j (inTurn f p)
+    → Written l m i j (inTurn f (min a b))
+written-first f p a b g h k w = written-in-turn f p (min a b) (omega arith) (omega arith) w
 
-pub written-second : {l m : List ℕ} {i j : ℕ} (f : ℕ → List ℕ) (p a b : ℕ) → p ≤ a → p ≤ b → b ≤ p → Written l m i j (joined f p)
-    → Written l m i j (joined f (min a b))
-written-second f p a b g h k w = written-joined f p (min a b) (omega arith) (omega arith) w
+pub written-second : {l m : List ℕ} {i j : ℕ} (f : ℕ → List ℕ) (p a b : ℕ) → p ≤ a → p ≤ b → b ≤ p → Written l m i j (inTurn f p)
+    → Written l m i j (inTurn f (min a b))
+written-second f p a b g h k w = written-in-turn f p (min a b) (omega arith) (omega arith) w

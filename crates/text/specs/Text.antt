@@ -56,9 +56,9 @@ unfoldable pub spaced : ℕ → List ℕ
 spaced x = space ++ decimal x
 
 -- the texts f 0 to f (k - 1), one after the other
-abbrev pub joined : (ℕ → List ℕ) → ℕ → List ℕ
-joined f zero = []
-joined f (suc k) = joined f k ++ f k
+abbrev pub inTurn : (ℕ → List ℕ) → ℕ → List ℕ
+inTurn f zero = []
+inTurn f (suc k) = inTurn f k ++ f k
 
 -- a word, a number and the line's end
 unfoldable pub line : List ℕ → ℕ → List ℕ
@@ -66,7 +66,7 @@ line word x = word ++ (spaced x ++ newline)
 
 -- 'order' and the variables, the top place first; 'At n = 0 the order line is `order`'
 unfoldable pub orderLine : ℕ → List ℕ → List ℕ
-orderLine n order = order-word ++ (joined (λ i. spaced (getD order i 0)) n ++ newline)
+orderLine n order = order-word ++ (inTurn (λ i. spaced (getD order i 0)) n ++ newline)
 
 -- 'Cell lines: number, place, 0-arrow, 1-arrow'; the i-th of the list, from 0, has the number i + 1
 unfoldable pub nodeText : List ℕ → ℕ → List ℕ
@@ -82,7 +82,7 @@ rootLine roots j = root-word ++ (spaced j ++ (spaced (getD roots j 0) ++ newline
 
 -- the lines of the cells counted and lent, then of the roots
 unfoldable pub networkLines : ℕ → ℕ → List ℕ → List ℕ → List ℕ
-networkLines count m roots cells = joined (cellLine cells) (min count (length cells / 3)) ++ joined (rootLine roots) m
+networkLines count m roots cells = inTurn (cellLine cells) (min count (length cells / 3)) ++ inTurn (rootLine roots) m
 
 -- the held cells and roots; none where no network is held
 unfoldable pub heldLines : State → List ℕ → List ℕ → List ℕ

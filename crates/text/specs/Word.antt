@@ -6,8 +6,8 @@ use Prim.Native.Nat.{ℕ, _+_, _*_, _-_}
 use lib.Dec.{eqb, leb, ltb}
 use lib.ListN.{length}
 use Rattle.diagram.specs.Lists.{all}
-use Rattle.text.specs.declared.word.Number.{Number}
-use Rattle.text.specs.declared.word.Number.the-variants.{Is, Wrong}
+use Rattle.text.specs.declared.word.Decimal.{Decimal}
+use Rattle.text.specs.declared.word.Decimal.the-variants.{Is, Wrong}
 
 abbrev pub sameBytes : List ℕ → List ℕ → Bool
 sameBytes [] [] = true
@@ -28,6 +28,6 @@ readOn value [] = value
 readOn value (b ∷ bs) = readOn (10 * value + digitOf b) bs
 
 -- one digit or more and nothing else, and at most `most`
-unfoldable pub numberIn : List ℕ → ℕ → Number
-numberIn word most =
+unfoldable pub decimalIn : List ℕ → ℕ → Decimal
+decimalIn word most =
     cond (ltb 0 (length word) && (all isDigit word && leb (readOn 0 word) most)) (Is (readOn 0 word)) Wrong

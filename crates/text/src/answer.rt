@@ -3,7 +3,8 @@ use table::Answer;
 ghost use mathlib.Core.Path.{_≡_};
 ghost use Rattle.table.specs.Answer.{number, value};
 
-pub(crate) fn number_of(answer: Answer) -> usize
+// The number of the paper's tables; 0 of a success.
+pub fn number_of(answer: Answer) -> usize
     ensures { λ r. ⌜ r ≡ number answer ⌝ }
 {
     match answer {
@@ -25,7 +26,8 @@ pub(crate) fn number_of(answer: Answer) -> usize
     }
 }
 
-pub(crate) fn value_of(answer: Answer) -> usize
+// What a success answers, or the cells wanted where the board is too small; else 0.
+pub fn value_of(answer: Answer) -> usize
     ensures { λ r. ⌜ r ≡ value answer ⌝ }
 {
     match answer {

@@ -1,5 +1,6 @@
 // The text of a whole network.
 use crate::line::put_order;
+use crate::put::NEWLINE;
 use crate::put::put_byte;
 use crate::put::put_line;
 use crate::put::put_number;
@@ -7,10 +8,9 @@ use crate::put::put_word;
 use network::cells::lent_number;
 use table::State;
 use table::valid::holds_network;
-ghost use mathlib.Core.Path.{_≡_};
-ghost use Prim.Native.Nat.{ℕ, _+_, _*_, _/_, _≤_, _<_, min};
-ghost use lib.ListN.{length, getD};
-ghost use Rattle.text.specs.Text.{joined, nodeText, cellLine, rootLine, heldLines, totalLines, headingLines, networkText};
+ghost use Prim.Native.Nat.{_/_, _≤_, _<_, min};
+ghost use lib.ListN.{length};
+ghost use Rattle.text.specs.Text.{inTurn, nodeText, cellLine, rootLine, heldLines, totalLines, headingLines, networkText};
 ghost use Rattle.text.specs.Written.{Written};
 
 // The numbers of one cell, and the line's end.
@@ -21,7 +21,7 @@ fn put_node(out: &mut [u8], at: usize, cells: &[u16], i: usize) -> usize
     let low = put_number(out, at, lent_number(cells, 3 * i));
     let high = put_number(out, low, lent_number(cells, 3 * i + 1));
     let end = put_number(out, high, lent_number(cells, 3 * i + 2));
-    put_byte(out, end, 10)
+    put_byte(out, end, NEWLINE)
 }
 
 // The line of one cell.
@@ -39,7 +39,7 @@ fn put_cells(out: &mut [u8], at: usize, count: usize, cells: &[u16]) -> usize
     requires { ⌜ at ≤ length (now out) ⌝ }
     ensures { λ r.
         ⌜ Written (now (out .entry)) (now (out .exit)) at r
-        (joined (cellLine (now (cells .entry))) (min count (length (now (cells .entry)) / 3))) ⌝ }
+        (inTurn (cellLine (now (cells .entry))) (min count (length (now (cells .entry)) / 3))) ⌝ }
 {
     let mut i: usize = 0;
     let mut next = at;
@@ -61,13 +61,13 @@ fn put_root(out: &mut [u8], at: usize, roots: &[u16], j: usize) -> usize
     let output = put_word(out, at, b"root");
     let root = put_number(out, output, j);
     let end = put_number(out, root, lent_number(roots, j));
-    put_byte(out, end, 10)
+    put_byte(out, end, NEWLINE)
 }
 
 // The lines of the first m roots.
 fn put_roots(out: &mut [u8], at: usize, m: usize, roots: &[u16]) -> usize
     requires { ⌜ at ≤ length (now out) ⌝ }
-    ensures { λ r. ⌜ Written (now (out .entry)) (now (out .exit)) at r (joined (rootLine (now (roots .entry))) m) ⌝ }
+    ensures { λ r. ⌜ Written (now (out .entry)) (now (out .exit)) at r (inTurn (rootLine (now (roots .entry))) m) ⌝ }
 {
     let mut j: usize = 0;
     let mut next = at;

@@ -1,9 +1,7 @@
 // Section 8's text, written into a lent buffer: each function answers how many bytes it wrote, and what would lie past the buffer's end
 // is not written.
-mod answer;
+pub mod answer;
 pub mod held;
-pub mod input;
 pub mod line;
-pub mod printed;
 mod put;
 pub mod word;

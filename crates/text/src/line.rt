@@ -1,6 +1,7 @@
 // The lines that programs print: a word and a number, a call's answer, an order.
 use crate::answer::number_of;
 use crate::answer::value_of;
+use crate::put::NEWLINE;
 use crate::put::put_byte;
 use crate::put::put_line;
 use crate::put::put_number;
@@ -8,10 +9,11 @@ use crate::put::put_word;
 use diagram::VARIABLES;
 use table::Answer;
 use table::State;
-ghost use Prim.Native.Nat.{ℕ, _≤_, min};
+ghost use Prim.Native.Nat.{_≤_, min};
 ghost use mathlib.Core.Path.{_≡_};
 ghost use lib.ListN.{length, getD};
-ghost use Rattle.text.specs.Text.{spaced, joined, line, answered, answerLine, rowLine, stateOrder};
+ghost use Rattle.diagram.specs.Bound.{mostVariables};
+ghost use Rattle.text.specs.Text.{spaced, inTurn, line, answered, answerLine, rowLine, stateOrder};
 ghost use Rattle.text.specs.Written.{Written};
 
 // A word and a number.
@@ -28,7 +30,7 @@ fn put_answer(out: &mut [u8], at: usize, answer: Answer) -> usize
 {
     let value = put_number(out, at, number_of(answer));
     let end = put_number(out, value, value_of(answer));
-    put_byte(out, end, 10)
+    put_byte(out, end, NEWLINE)
 }
 
 // A word, and a call's answer.
@@ -50,8 +52,8 @@ pub fn row_line(out: &mut [u8], row: usize, answer: Answer) -> usize
 
 // The first n entries of an order, a space before each.
 fn put_entries(out: &mut [u8], at: usize, n: usize, order: [usize; VARIABLES]) -> usize
-    requires { ⌜ (at ≤ length (now out)) × (n ≤ 10) ⌝ }
-    ensures { λ r. ⌜ Written (now (out .entry)) (now (out .exit)) at r (joined (λ i. spaced (getD order i 0)) n) ⌝ }
+    requires { ⌜ (at ≤ length (now out)) × (n ≤ mostVariables) ⌝ }
+    ensures { λ r. ⌜ Written (now (out .entry)) (now (out .exit)) at r (inTurn (λ i. spaced (getD order i 0)) n) ⌝ }
 {
     let mut i: usize = 0;
     let mut next = at;
@@ -62,9 +64,9 @@ fn put_entries(out: &mut [u8], at: usize, n: usize, order: [usize; VARIABLES]) -
     next
 }
 
-// How many of the ten entries the order of n variables has.
+// How many of a state's entries the order of n variables has.
 fn entries_of(n: usize) -> usize
-    ensures { λ r. ⌜ (r ≡ min n 10) × (r ≤ 10) ⌝ }
+    ensures { λ r. ⌜ (r ≡ min n mostVariables) × (r ≤ mostVariables) ⌝ }
 {
     if n < VARIABLES { n } else { VARIABLES }
 }
@@ -77,7 +79,7 @@ pub(crate) fn put_order(out: &mut [u8], at: usize, state: State) -> usize
     let order = state.order;
     let entries = put_word(out, at, b"order");
     let end = put_entries(out, entries, entries_of(state.n), order);
-    put_byte(out, end, 10)
+    put_byte(out, end, NEWLINE)
 }
 
 // The order line of a state.

@@ -1,9 +1,14 @@
 // Bytes, words and decimal numbers, written at a position of a lent buffer; each answers the position behind.
 ghost use mathlib.Core.List.{[], _∷_};
-ghost use Prim.Native.Nat.{ℕ, _+_, _<_, _≤_};
+ghost use Prim.Native.Nat.{_≤_};
 ghost use lib.ListN.{length};
-ghost use Rattle.text.specs.Text.{digits, decimal, spaced, line};
+ghost use Rattle.text.specs.Text.{digits, spaced, line};
 ghost use Rattle.text.specs.Written.{Written};
+
+// The bytes of a space and of a line's end.
+const SPACE: u8 = 32;
+
+pub(crate) const NEWLINE: u8 = 10;
 
 // One byte.
 pub(crate) fn put_byte(out: &mut [u8], at: usize, byte: u8) -> usize
@@ -52,7 +57,7 @@ pub(crate) fn put_number(out: &mut [u8], at: usize, x: usize) -> usize
     requires { ⌜ at ≤ length (now out) ⌝ }
     ensures { λ r. ⌜ Written (now (out .entry)) (now (out .exit)) at r (spaced x) ⌝ }
 {
-    let next = put_byte(out, at, 32);
+    let next = put_byte(out, at, SPACE);
     put_digits(out, next, x, 19)
 }
 
@@ -63,5 +68,5 @@ pub(crate) fn put_line(out: &mut [u8], at: usize, word: &[u8], x: usize) -> usiz
 {
     let number = put_word(out, at, word);
     let end = put_number(out, number, x);
-    put_byte(out, end, 10)
+    put_byte(out, end, NEWLINE)
 }

@@ -1,11 +1,10 @@
 // The words of a command: whether one is a given word, and the number that one stands for.
 ghost use mathlib.Core.Path.{_≡_};
-ghost use Prim.Native.Nat.{ℕ, _≤_, _<_};
-ghost use lib.ListN.{length};
-ghost use Rattle.text.specs.Word.{sameBytes, digitOf, numberIn};
+ghost use Prim.Native.Nat.{_≤_};
+ghost use Rattle.text.specs.Word.{sameBytes, digitOf, decimalIn};
 
 // A number in decimal, or none.
-pub enum Number {
+pub enum Decimal {
     Is(u32),
     Wrong,
 }
@@ -41,11 +40,11 @@ fn digit(byte: u8) -> usize
 }
 
 // The number that a word of digits stands for, if it is at most `most`.
-pub fn number_in(word: &[u8], most: u32) -> Number
-    ensures { λ r. ⌜ r ≡ numberIn (now (word .entry)) most ⌝ }
+pub fn decimal_in(word: &[u8], most: u32) -> Decimal
+    ensures { λ r. ⌜ r ≡ decimalIn (now (word .entry)) most ⌝ }
 {
     if word.len() == 0 {
-        return Number::Wrong;
+        return Decimal::Wrong;
     }
     let limit = most as usize;
     let mut value: usize = 0;
@@ -53,14 +52,14 @@ pub fn number_in(word: &[u8], most: u32) -> Number
     while i < word.len() {
         let next = digit(word[i]);
         if next == 10 {
-            return Number::Wrong;
+            return Decimal::Wrong;
         }
         value = 10 * value + next;
         if limit < value {
-            return Number::Wrong;
+            return Decimal::Wrong;
         }
         i += 1;
     }
     let found = value as u32;
-    Number::Is(found)
+    Decimal::Is(found)
 }

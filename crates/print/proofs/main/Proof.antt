@@ -2,8 +2,8 @@
 -- Assumes nothing.
 use mathlib.Core.Path.{sym}
 use lib.Seq.{length-take-le}
-use Rattle.text.proofs.Writing.{written-room}
 use borrow.Author.Needs.{needs}
+use Rattle.printed.proofs.WholeTexts.{whole-room}
 use Rattle.print.proofs.main.Statement.{statement}
 use Rattle.print.proofs.main.Tie as tie
 
@@ -16,37 +16,19 @@ read-full-requires c κs = search needs
 array-share-prefix-file : tie.Need-array-share-prefix-file
 array-share-prefix-file c = search needs
 
-slice-aggregate-printed : tie.Need-slice-aggregate-printed
-slice-aggregate-printed c = search needs
+slice-aggregate-print-table : tie.Need-slice-aggregate-print-table
+slice-aggregate-print-table c = search needs
 
-slice-aggregate-printed-2 : tie.Need-slice-aggregate-printed-2
-slice-aggregate-printed-2 c = search needs
-
-slice-aggregate-printed-3 : tie.Need-slice-aggregate-printed-3
-slice-aggregate-printed-3 c = search needs
-
-slice-aggregate-printed-4 : tie.Need-slice-aggregate-printed-4
-slice-aggregate-printed-4 c = search needs
-
-slice-aggregate-printed-5 : tie.Need-slice-aggregate-printed-5
-slice-aggregate-printed-5 c = search needs
-
-slice-aggregate-printed-6 : tie.Need-slice-aggregate-printed-6
-slice-aggregate-printed-6 c = search needs
-
-slice-aggregate-printed-7 : tie.Need-slice-aggregate-printed-7
-slice-aggregate-printed-7 c = search needs
-
-printed-requires : tie.Need-printed-requires
-printed-requires c κs = search needs
+print-table-requires : tie.Need-print-table-requires
+print-table-requires c κs = search needs
 
 array-share-prefix-out : tie.Need-array-share-prefix-out
-array-share-prefix-out c = search needs
+array-share-prefix-out c = whole-room (c .print-table .ensures .0)
 
 slice-aggregate-write-all : tie.Need-slice-aggregate-write-all
 slice-aggregate-write-all c =
-    let p = c .before .before .before .before .before .before .before .printed in
-    sym (length-take-le (p .result) (p .last .1 .1 .1 .1 .1 .1 .0) (written-room (p .ensures .0)))
+    let p = c .before .print-table in
+    sym (length-take-le (p .result) (p .last .1 .1 .1 .1 .1 .1 .0) (whole-room (p .ensures .0)))
 
 write-all-requires : tie.Need-write-all-requires
 write-all-requires c κs = search needs
@@ -61,14 +43,8 @@ main-spec =
     slice-aggregate-read-full
     read-full-requires
     array-share-prefix-file
-    slice-aggregate-printed
-    slice-aggregate-printed-2
-    slice-aggregate-printed-3
-    slice-aggregate-printed-4
-    slice-aggregate-printed-5
-    slice-aggregate-printed-6
-    slice-aggregate-printed-7
-    printed-requires
+    slice-aggregate-print-table
+    print-table-requires
     array-share-prefix-out
     slice-aggregate-write-all
     write-all-requires

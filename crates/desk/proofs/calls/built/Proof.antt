@@ -21,7 +21,8 @@ slice-relend-prefix-build c = search needs
 
 slice-aggregate-build : tie.Need-slice-aggregate-build
 slice-aggregate-build c =
-    sym (length-take-le (c .before .before .before .before .before .if1 .end) (c .before .before .before .before .before .before .before .before .before .before .before .before .before .args .cells .now) (omega arith))
+    let e = c .before .before .before .before .before in
+    sym (length-take-le (e .if1 .end) (e .before .before .before .before .before .before .before .before .args .cells .now) (omega arith))
 
 build-requires : tie.Need-build-requires
 build-requires c κs = search needs

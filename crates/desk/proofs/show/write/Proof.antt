@@ -8,7 +8,9 @@ use Rattle.desk.proofs.show.write.Statement.{statement}
 use Rattle.desk.proofs.show.write.Tie as tie
 
 slice-aggregate-write-all : tie.Need-slice-aggregate-write-all
-slice-aggregate-write-all c = sym (length-take-le (c .before .before .before .args .length) (c .before .before .before .args .text .now) (omega arith))
+slice-aggregate-write-all c =
+    let a = c .before .before .before .args in
+    sym (length-take-le (a .length) (a .text .now) (omega arith))
 
 write-all-requires : tie.Need-write-all-requires
 write-all-requires c κs = search needs

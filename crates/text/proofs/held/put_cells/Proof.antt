@@ -3,14 +3,15 @@
 use borrow.Author.Needs.{needs}
 use Prim.Native.Nat.{_-_, _/_, _≤_}
 use lib.ListN.{length}
-use Rattle.text.specs.Text.{cellLine, joined}
+use Rattle.text.specs.Text.{cellLine, inTurn}
 use Rattle.text.specs.Written.{Written}
 use Rattle.text.proofs.Writing.{written-room, written-more, written-length, written-first, written-second}
 use Rattle.text.proofs.held.put_cells.Statement.{statement}
 use Rattle.text.proofs.held.put_cells.Tie as tie
 
 abbrev Inv-loop : tie.InvT-loop
-Inv-loop out₀ at count cells i₀ next₀ out i next = ((i ≤ count) × (i ≤ length cells / 3)) × Written out₀ out at next (joined (cellLine cells) i)
+Inv-loop out₀ at count cells i₀ next₀ out i next =
+    ((i ≤ count) × (i ≤ length cells / 3)) × Written out₀ out at next (inTurn (cellLine cells) i)
 
 abbrev μ-loop : tie.MeasureT-loop
 μ-loop out₀ at count cells i₀ next₀ out i next = count - i

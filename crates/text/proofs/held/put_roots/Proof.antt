@@ -2,14 +2,14 @@
 -- Assumes nothing.
 use borrow.Author.Needs.{needs}
 use Prim.Native.Nat.{_-_, _≤_}
-use Rattle.text.specs.Text.{rootLine, joined}
+use Rattle.text.specs.Text.{rootLine, inTurn}
 use Rattle.text.specs.Written.{Written}
-use Rattle.text.proofs.Writing.{written-room, written-more, written-length, written-joined}
+use Rattle.text.proofs.Writing.{written-room, written-more, written-length, written-in-turn}
 use Rattle.text.proofs.held.put_roots.Statement.{statement}
 use Rattle.text.proofs.held.put_roots.Tie as tie
 
 abbrev Inv-loop : tie.InvT-loop
-Inv-loop out₀ at m roots j₀ next₀ out j next = (j ≤ m) × Written out₀ out at next (joined (rootLine roots) j)
+Inv-loop out₀ at m roots j₀ next₀ out j next = (j ≤ m) × Written out₀ out at next (inTurn (rootLine roots) j)
 
 abbrev μ-loop : tie.MeasureT-loop
 μ-loop out₀ at m roots j₀ next₀ out j next = m - j
@@ -33,7 +33,7 @@ same-length : tie.Need-same-length Inv-loop μ-loop
 same-length c = search (needs, written-length)
 
 returns : tie.Need-returns Inv-loop μ-loop
-returns c = search (needs, written-joined)
+returns c = search (needs, written-in-turn)
 
 pub put-roots-spec : {M : Type 1} → statement M
 put-roots-spec =

@@ -3,14 +3,14 @@
 use borrow.Author.Needs.{needs}
 use Prim.Native.Nat.{_-_, _≤_}
 use lib.ListN.{getD}
-use Rattle.text.specs.Text.{spaced, joined}
+use Rattle.text.specs.Text.{spaced, inTurn}
 use Rattle.text.specs.Written.{Written}
-use Rattle.text.proofs.Writing.{written-room, written-more, written-length, written-joined}
+use Rattle.text.proofs.Writing.{written-room, written-more, written-length, written-in-turn}
 use Rattle.text.proofs.line.put_entries.Statement.{statement}
 use Rattle.text.proofs.line.put_entries.Tie as tie
 
 abbrev Inv-loop : tie.InvT-loop
-Inv-loop out₀ at n order i₀ next₀ out i next = (i ≤ n) × Written out₀ out at next (joined (λ k. spaced (getD order k 0)) i)
+Inv-loop out₀ at n order i₀ next₀ out i next = (i ≤ n) × Written out₀ out at next (inTurn (λ k. spaced (getD order k 0)) i)
 
 abbrev μ-loop : tie.MeasureT-loop
 μ-loop out₀ at n order i₀ next₀ out i next = n - i
@@ -40,7 +40,7 @@ same-length : tie.Need-same-length Inv-loop μ-loop
 same-length c = search (needs, written-length)
 
 returns : tie.Need-returns Inv-loop μ-loop
-returns c = search (needs, written-joined)
+returns c = search (needs, written-in-turn)
 
 pub put-entries-spec : {M : Type 1} → statement M
 put-entries-spec =

@@ -1,0 +1,11 @@
+pub mod InputCases
+pub mod LoadedInput
+pub mod OutputCases
+pub mod BoardEnough
+pub mod SmallNumbers
+pub mod TextLength
+pub mod NeverCut
+pub mod Sizes
+pub mod WholeTexts
+pub mod FileText
+pub mod FileOutput

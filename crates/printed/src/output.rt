@@ -1,0 +1,142 @@
+// The whole output of the printing program: the network of the table in its input, or a refusal (document 01, section 8).
+use crate::input::load_input;
+use diagram::NODES;
+use fill::WORK;
+use network::ROOTS;
+use network::build::build;
+use table::Answer;
+use table::PLANE;
+use table::State;
+use table::cared::cared;
+use table::load::unloaded;
+use text::answer::number_of;
+use text::answer::value_of;
+use text::held::network_text;
+use text::line::number_line;
+ghost use mathlib.Core.Path.{_≡_};
+ghost use Rattle.table.specs.Answer.{value};
+ghost use Rattle.table.specs.Calls.{caredAnswer};
+ghost use Rattle.network.specs.Build.{buildRoots, buildCells, buildWork};
+ghost use Rattle.text.specs.Written.{Written};
+ghost use Rattle.printed.specs.Input.{inputValues, inputCare};
+ghost use Rattle.printed.specs.Output.{
+  refusedLine,
+  outputOf,
+  outputValues,
+  outputCare,
+  outputWork,
+  outputRoots,
+  outputCells,
+  Whole,
+};
+ghost use Rattle.printed.specs.inner.Printed.{builtText, printedText, printedWork, printedRoots, printedCells};
+
+// The numbers of the cells that any table needs, and the bytes that any output fits in; specs/Output.antt has the latter, `textSize`.
+pub const CELLS: usize = 3 * NODES;
+
+pub const TEXT: usize = 65536;
+
+// The line of a refusal.
+fn refusal(out: &mut [u8], answer: Answer) -> usize
+    ensures { λ r. ⌜ Written (now (out .entry)) (now (out .exit)) 0 r (refusedLine answer) ⌝ }
+{
+    number_line(out, b"refused", number_of(answer))
+}
+
+// The cared bits of a table that is held.
+fn cared_bits(state: State, care: &[u8]) -> usize
+    ensures { λ r. ⌜ r ≡ value (caredAnswer state (now (care .entry))) ⌝ }
+{
+    value_of(cared(state, care))
+}
+
+// Builds the table that is held, and prints its network.
+fn built(
+    state: State,
+    values: &[u8],
+    care: &[u8],
+    work: &mut [u8],
+    roots: &mut [u16],
+    cells: &mut [u16],
+    out: &mut [u8],
+) -> usize
+    ensures text { λ r.
+        ⌜ Written (now (out .entry)) (now (out .exit)) 0 r
+        (builtText state (now (values .entry)) (now (care .entry)) (now (work .entry)) (now (roots .entry)) (now (cells .entry))) ⌝ }
+    ensures work { λ _.
+        ⌜ now (work .exit)
+        ≡ buildWork state (now (values .entry)) (now (care .entry)) (now (work .entry)) (now (roots .entry)) (now (cells .entry)) ⌝ }
+    ensures roots { λ _.
+        ⌜ now (roots .exit)
+        ≡ buildRoots state (now (values .entry)) (now (care .entry)) (now (work .entry)) (now (roots .entry)) (now (cells .entry)) ⌝ }
+    ensures cells { λ _.
+        ⌜ now (cells .exit)
+        ≡ buildCells state (now (values .entry)) (now (care .entry)) (now (work .entry)) (now (roots .entry)) (now (cells .entry)) ⌝ }
+{
+    let outcome = build(state, values, care, work, roots, cells);
+    let answer = outcome.answer;
+    let after = outcome.state;
+    if number_of(answer) != 0 {
+        return refusal(out, answer);
+    }
+    network_text(out, after, cared_bits(after, care), roots, cells)
+}
+
+// Reads the table in a program's input, builds its network in the file's order, and prints it as far as there is room; or the refusal.
+fn print_input(
+    file: &[u8],
+    values: &mut [u8],
+    care: &mut [u8],
+    work: &mut [u8],
+    roots: &mut [u16],
+    cells: &mut [u16],
+    out: &mut [u8],
+) -> usize
+    ensures text { λ r.
+        ⌜ Written (now (out .entry)) (now (out .exit)) 0 r
+        (printedText (now (file .entry)) (now (values .entry)) (now (care .entry)) (now (work .entry)) (now (roots .entry))
+        (now (cells .entry))) ⌝ }
+    ensures values { λ _. ⌜ now (values .exit) ≡ inputValues (now (file .entry)) (now (values .entry)) (now (care .entry)) ⌝ }
+    ensures care { λ _. ⌜ now (care .exit) ≡ inputCare (now (file .entry)) (now (values .entry)) (now (care .entry)) ⌝ }
+    ensures work { λ _.
+        ⌜ now (work .exit)
+        ≡ printedWork (now (file .entry)) (now (values .entry)) (now (care .entry)) (now (work .entry)) (now (roots .entry))
+        (now (cells .entry)) ⌝ }
+    ensures roots { λ _.
+        ⌜ now (roots .exit)
+        ≡ printedRoots (now (file .entry)) (now (values .entry)) (now (care .entry)) (now (work .entry)) (now (roots .entry))
+        (now (cells .entry)) ⌝ }
+    ensures cells { λ _.
+        ⌜ now (cells .exit)
+        ≡ printedCells (now (file .entry)) (now (values .entry)) (now (care .entry)) (now (work .entry)) (now (roots .entry))
+        (now (cells .entry)) ⌝ }
+{
+    let outcome = load_input(unloaded(), file, values, care);
+    let answer = outcome.answer;
+    let state = outcome.state;
+    if number_of(answer) != 0 {
+        return refusal(out, answer);
+    }
+    built(state, values, care, work, roots, cells, out)
+}
+
+// Prints the network of the table in a program's input, built in the file's order, or the refusal's number. Whatever the input, the text
+// is whole, and its length is answered.
+pub fn print_table(
+    file: &[u8],
+    values: &mut [u8; PLANE],
+    care: &mut [u8; PLANE],
+    work: &mut [u8; WORK],
+    roots: &mut [u16; ROOTS],
+    cells: &mut [u16; CELLS],
+    out: &mut [u8; TEXT],
+) -> usize
+    ensures text { λ r. ⌜ Whole (now (out .entry)) (now (out .exit)) r (outputOf (now (file .entry))) ⌝ }
+    ensures values { λ _. ⌜ now (values .exit) ≡ outputValues (now (file .entry)) (now (values .entry)) ⌝ }
+    ensures care { λ _. ⌜ now (care .exit) ≡ outputCare (now (file .entry)) (now (care .entry)) ⌝ }
+    ensures work { λ _. ⌜ now (work .exit) ≡ outputWork (now (file .entry)) (now (work .entry)) ⌝ }
+    ensures roots { λ _. ⌜ now (roots .exit) ≡ outputRoots (now (file .entry)) (now (roots .entry)) ⌝ }
+    ensures cells { λ _. ⌜ now (cells .exit) ≡ outputCells (now (file .entry)) (now (cells .entry)) ⌝ }
+{
+    print_input(file, values, care, work, roots, cells, out)
+}
