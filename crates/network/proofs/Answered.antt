@@ -19,7 +19,7 @@ use Rattle.table.specs.declared.Answer.the-variants.{Done, ShortBuffer, NoNetwo
 use Rattle.table.specs.declared.Stage.{Stage}
 use Rattle.table.specs.declared.Stage.the-variants.{Nothing, Table as AtTable, Network}
 use Rattle.table.specs.declared.State.{State}
-use Rattle.table.specs.Stream.{packed}
+use Rattle.block.specs.Bits.{packed}
 use Rattle.table.specs.State.{orderOf, stageOf, isNothing, isNetwork}
 use Rattle.table.proofs.Held.{few-inputs, few-outputs, ordered}
 use Rattle.network.specs.Lent.{lentDiagram, rootsSize}

@@ -19,7 +19,7 @@ use Rattle.table.specs.declared.Outcome.{Outcome}
 use Rattle.table.specs.declared.State.{State}
 use Rattle.table.specs.Answer.{done, number}
 use Rattle.table.specs.State.{orderOf, stageOf, isNothing}
-use Rattle.table.specs.Stream.{sum}
+use Rattle.block.specs.Bits.{sum}
 use Rattle.table.specs.Calls.{over}
 use Rattle.table.proofs.Answer.{the-type}
 use Rattle.table.proofs.Held.{few-inputs, few-outputs}

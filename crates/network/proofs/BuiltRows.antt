@@ -16,7 +16,7 @@ use Rattle.diagram.proofs.Bools.{split, of-T}
 use Rattle.diagram.proofs.Demands.{right}
 use Rattle.table.specs.declared.State.{State}
 use Rattle.table.specs.declared.Answer.the-variants.{Done}
-use Rattle.table.specs.Stream.{packed}
+use Rattle.block.specs.Bits.{packed}
 use Rattle.table.specs.State.{goodHeading, orderOf, stageOf, isNothing, isNetwork}
 use Rattle.table.specs.Calls.{over}
 use Rattle.table.proofs.Held.{few-outputs, stage-bad}

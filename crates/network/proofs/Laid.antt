@@ -9,7 +9,7 @@ use lib.Dec.{T}
 use lib.ListN.{length, getD, drop}
 use Rattle.table.specs.declared.State.{State}
 use Rattle.table.specs.State.{stageOf, isNothing}
-use Rattle.table.specs.Stream.{sum}
+use Rattle.block.specs.Bits.{sum}
 use Rattle.table.specs.Calls.{over}
 use Rattle.fill.specs.Work.{workSize, traceWork, zeroWork, clearedWork}
 use Rattle.fill.proofs.Holding.{work-size}

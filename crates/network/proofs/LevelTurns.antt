@@ -5,7 +5,7 @@ use mathlib.Core.List.{List}
 use Prim.Native.Nat.{ℕ, zero, suc, _+_, _-_, _≤_}
 use native.Mathlib.Omega.{arith}
 use lib.ListN.{length, getD}
-use Rattle.table.specs.Stream.{sum}
+use Rattle.block.specs.Bits.{sum}
 use Rattle.network.specs.inner.Levels.{Made, made, levelMade, levelAt, levelFrom, levelsMade}
 use Rattle.network.proofs.Entries.{level-work, level-cells}
 

@@ -13,7 +13,7 @@ use Rattle.diagram.specs.Fill.{Link}
 use Rattle.diagram.specs.Diagram.{Node}
 use Rattle.diagram.specs.inner.Trace.{differing, entryNodes, tracedRefs, tracedNodes}
 use Rattle.diagram.proofs.Rising.{AllValid}
-use Rattle.table.specs.Stream.{sum}
+use Rattle.block.specs.Bits.{sum}
 use Rattle.fill.specs.Work.{allLinks}
 use Rattle.network.specs.Lent.{numbersOf}
 use Rattle.network.specs.inner.Levels.{Made, made, levelMade, levelAt, levelsMade}

@@ -19,7 +19,7 @@ use Rattle.diagram.proofs.Bools.{split, to-T}
 use Rattle.diagram.proofs.Lists.{all-at}
 use Rattle.diagram.proofs.Numbers.{below-other}
 use Rattle.diagram.proofs.Bits.{one-shifted}
-use Rattle.table.specs.Stream.{packed}
+use Rattle.block.specs.Bits.{packed}
 use Rattle.fill.proofs.Gathered.{gathered-lt}
 use Rattle.network.specs.inner.Cells.{lentCells, outputAt}
 

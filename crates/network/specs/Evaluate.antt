@@ -11,7 +11,7 @@ use Rattle.table.specs.declared.Answer.{Answer}
 use Rattle.table.specs.declared.Answer.the-variants.{Done, ShortBuffer, NoNetwork, NoRow, BadCells}
 use Rattle.table.specs.declared.State.{State}
 use Rattle.table.specs.Answer.{unless}
-use Rattle.table.specs.Stream.{packed}
+use Rattle.block.specs.Bits.{packed}
 use Rattle.table.specs.State.{orderOf, stageOf, isNetwork}
 use Rattle.network.specs.Lent.{lentDiagram, rootsSize}
 

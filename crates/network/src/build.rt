@@ -20,7 +20,7 @@ ghost use Rattle.diagram.specs.Bound.{mostVariables, mostOutputs};
 ghost use Rattle.diagram.specs.Demands.{NoneFits};
 ghost use Rattle.table.specs.Answer.{done, number};
 ghost use Rattle.table.specs.State.{orderOf};
-ghost use Rattle.table.specs.Stream.{sum};
+ghost use Rattle.block.specs.Bits.{sum};
 ghost use Rattle.table.specs.Calls.{over};
 ghost use Rattle.fill.specs.Work.{workSize, clearedWork};
 ghost use Rattle.fill.specs.Calls.{heldTable};

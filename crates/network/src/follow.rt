@@ -11,7 +11,7 @@ ghost use Rattle.diagram.specs.Diagram.{edge, nodeAt, refers, gives};
 ghost use Rattle.diagram.specs.Bound.{mostVariables};
 ghost use Rattle.diagram.specs.Order.{isOrder, rowUnder};
 ghost use Rattle.network.specs.inner.Cells.{lentCells, Followable, Rooted, outputAt};
-ghost use Rattle.table.specs.Stream.{packed};
+ghost use Rattle.block.specs.Bits.{packed};
 
 // A bit, inverted where i is true.
 fn flipped(i: bool, b: bool) -> bool

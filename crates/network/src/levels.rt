@@ -11,7 +11,7 @@ ghost use Prim.Native.Nat.{ℕ, _+_, _-_, _*_, _<_, _≤_};
 ghost use lib.ListN.{length, getD};
 ghost use lib.Seq.{sets};
 ghost use Rattle.diagram.specs.Bound.{mostVariables, mostOutputs};
-ghost use Rattle.table.specs.Stream.{sum};
+ghost use Rattle.block.specs.Bits.{sum};
 ghost use Rattle.fill.specs.Work.{workSize};
 ghost use Rattle.network.specs.Lent.{numberLimit};
 ghost use Rattle.network.specs.inner.Levels.{storedLimit, made, entryMade, levelMade, levelAt, levelsMade};

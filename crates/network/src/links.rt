@@ -1,5 +1,5 @@
 // Links and references in the work buffer, as numbers of two bytes, low byte first.
-use table::bits::number_at;
+use block::bits::number_at;
 ghost use mathlib.Core.Path.{_≡_};
 ghost use Prim.Native.Nat.{_+_, _*_, _<_, _≤_};
 ghost use lib.ListN.{length};

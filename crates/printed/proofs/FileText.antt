@@ -21,7 +21,7 @@ use Rattle.table.specs.Calls.{planeSize, over, caredAnswer}
 use Rattle.table.proofs.Held.{stage-good, held-heading, few-inputs, few-outputs}
 use Rattle.table.proofs.Over.{getD-over}
 use Rattle.network.specs.Lent.{numbersOf, rootsSize}
-use Rattle.network.specs.Levels.{networkState}
+use Rattle.network.specs.Build.{networkState}
 use Rattle.network.proofs.LevelsRead.{numbers-length}
 use Rattle.network.proofs.RootTurns.{roots-size}
 use Rattle.text.specs.Text.{

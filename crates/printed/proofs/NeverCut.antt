@@ -34,13 +34,14 @@ use Rattle.table.specs.declared.Answer.the-variants.{
 use Rattle.table.specs.declared.Outcome.{Outcome}
 use Rattle.table.specs.declared.State.{State}
 use Rattle.table.specs.Answer.{number, value, done}
-use Rattle.table.specs.Stream.{streamBit, sum, caredBits}
+use Rattle.block.specs.Bits.{streamBit, sum}
+use Rattle.table.specs.Stream.{caredBits}
 use Rattle.table.specs.State.{orderOf, stageOf, isNothing}
 use Rattle.table.specs.Calls.{planeSize, over, caredAnswer}
 use Rattle.table.proofs.Held.{few-inputs, few-outputs, few-bits, ordered}
 use Rattle.fill.specs.Work.{workSize}
 use Rattle.network.specs.Lent.{numbersOf, rootsSize}
-use Rattle.network.specs.Levels.{networkState}
+use Rattle.network.specs.Build.{networkState}
 use Rattle.network.specs.Build.{heldNetwork, wanted, capacity, buildAnswer, buildOutcome, buildRoots, buildCells}
 use Rattle.network.proofs.HeldRead.{few-wanted}
 use Rattle.network.proofs.Outcomes.{done-outcome, done-roots, done-cells}

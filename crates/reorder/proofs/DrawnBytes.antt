@@ -13,7 +13,7 @@ use Rattle.diagram.specs.Tree.{draw}
 use Rattle.diagram.proofs.UpTo.{map-upTo-cong, map-upTo-add, getD-map-upTo}
 use Rattle.reorder.specs.Sizes.{width}
 use Rattle.reorder.specs.inner.Pack.{num, pack}
-use Rattle.table.specs.Stream.{packed}
+use Rattle.block.specs.Bits.{packed}
 use Rattle.reorder.proofs.Pack.{width-small, width-suc, width-rows, by-width, pack-small, pack-node}
 
 pub gathered-cong : (k : ℕ) (f g : ℕ → Bool) → ((b : ℕ) → b < k → f b ≡ g b) → packed k f ≡ packed k g

@@ -20,7 +20,8 @@ use Rattle.diagram.specs.Fill.{Row}
 use Rattle.diagram.specs.Table.{reordered}
 use Rattle.diagram.proofs.Bits.{number-cong}
 use Rattle.diagram.proofs.UpTo.{map-upTo-cong, getD-map-upTo, length-map-upTo}
-use Rattle.table.specs.Stream.{streamBit, packed, tableOf}
+use Rattle.block.specs.Bits.{streamBit, packed}
+use Rattle.table.specs.Stream.{tableOf}
 use Rattle.table.proofs.Filled.{filled}
 use Rattle.reorder.specs.Sizes.{width, mostRows, partSize}
 use Rattle.reorder.specs.inner.Pack.{pack, encode}

@@ -9,7 +9,7 @@ use lib.ListN.{getD, take, drop, replicate}
 use Rattle.diagram.specs.Lists.{upTo}
 use Rattle.diagram.specs.Bound.{mostVariables, mostOutputs}
 use Rattle.diagram.specs.Order.{behind}
-use Rattle.table.specs.Stream.{streamBit, packed}
+use Rattle.block.specs.Bits.{streamBit, packed}
 use Rattle.reorder.specs.Sizes.{width, mostRows, partSize}
 
 -- the drawn row behind each row under the order of the first n entries; zeros past the rows, and where n is too large

@@ -5,7 +5,7 @@ use crate::width::rows_in;
 use crate::width::width_of;
 use diagram::OUTPUTS;
 use diagram::VARIABLES;
-use table::bits::bit_at;
+use block::bits::bit_at;
 ghost use mathlib.Core.Path.{_≡_};
 ghost use mathlib.Core.List.{_++_};
 ghost use Prim.Native.Nat.{_+_, _*_, _^_, _≤_, _<_};

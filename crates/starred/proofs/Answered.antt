@@ -19,7 +19,7 @@ use Rattle.fill.specs.Calls.{heldTable, enough, countAnswer}
 use Rattle.network.specs.Lent.{numbersOf, rootsSize}
 use Rattle.network.specs.Build.{heldNetwork, wanted, capacity, longEnough, buildAnswer, buildOutcome, buildRoots, buildCells}
 use Rattle.sift.specs.Calls.{siftedOrder, siftAnswer, siftOutcome}
-use Rattle.sift.proofs.Headings.{take-order}
+use Rattle.sift.proofs.ReorderedHeading.{take-order}
 
 module _ (s : State) (values care work : List ℕ) (long : T (enough values care work)) (staged : isNothing (stageOf s) ≡ false) where
   is-long : enough values care work ≡ true

@@ -9,7 +9,7 @@ use Prim.Native.Nat.{ℕ, _+_, _*_, _^_}
 use Rattle.diagram.specs.Table.{Table, filledBit, networkOf, cost}
 use Rattle.diagram.specs.Sift.{sift}
 use Rattle.table.specs.declared.State.{State}
-use Rattle.table.specs.Stream.{streamBit}
+use Rattle.block.specs.Bits.{streamBit}
 use Rattle.table.specs.State.{orderOf}
 use Rattle.fill.specs.Calls.{heldTable}
 use Rattle.fill.proofs.Cares.{mask-alike}

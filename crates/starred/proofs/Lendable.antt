@@ -22,7 +22,7 @@ use Rattle.diagram.proofs.Lists.{all-at}
 use Rattle.diagram.proofs.Order.{order-length}
 use Rattle.table.specs.declared.Stage.the-variants.{Table as AtTable}
 use Rattle.table.specs.declared.State.{State}
-use Rattle.table.specs.Stream.{streamBit}
+use Rattle.block.specs.Bits.{streamBit}
 use Rattle.table.specs.State.{goodHeading, orderOf, stageOf, isNothing}
 use Rattle.table.specs.Calls.{planeSize}
 use Rattle.table.proofs.Held.{stage-good, few-bits, heading-inputs, heading-order}

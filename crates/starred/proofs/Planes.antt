@@ -12,7 +12,7 @@ use Rattle.diagram.specs.Lists.{upTo, rowNumber, bit}
 use Rattle.diagram.proofs.Bools.{and-T}
 use Rattle.diagram.proofs.Bits.{number-lt, bit-number}
 use Rattle.diagram.proofs.UpTo.{getD-map-upTo, length-map-upTo}
-use Rattle.table.specs.Stream.{streamBit}
+use Rattle.block.specs.Bits.{streamBit}
 use Rattle.table.specs.Calls.{planeSize}
 use Rattle.starred.specs.Lendable.{isBytes}
 

@@ -12,7 +12,7 @@ use Rattle.diagram.specs.Table.{Table, filledBit, cost}
 use Rattle.diagram.specs.Starred.{Claim, builds, costs, sifts, fits}
 use Rattle.table.specs.declared.Answer.the-variants.{Done, TooSmall}
 use Rattle.table.specs.declared.State.{State}
-use Rattle.table.specs.Stream.{streamBit}
+use Rattle.block.specs.Bits.{streamBit}
 use Rattle.table.specs.State.{orderOf, stageOf, isNothing}
 use Rattle.table.specs.Calls.{over}
 use Rattle.fill.specs.Calls.{heldTable, enough, countAnswer}

@@ -10,7 +10,7 @@ use lib.ListN.{length, take, drop, length-append, length-map}
 use Rattle.diagram.specs.Lists.{upTo}
 use Rattle.diagram.specs.Tree.{Tree}
 use Rattle.diagram.specs.Fill.{Row, Link, level, trace, fill}
-use Rattle.diagram.specs.Trace.{differing, tracedCounts}
+use Rattle.diagram.specs.inner.Trace.{differing, tracedCounts}
 use Rattle.diagram.specs.Network.{counts, count}
 use Rattle.diagram.specs.Bound.{mostVariables, mostOutputs, mostNodes}
 use Rattle.diagram.specs.Table.{reordered}

@@ -16,7 +16,7 @@ use Rattle.diagram.specs.Network.{count}
 use Rattle.diagram.specs.Table.{reordered, filled, cost}
 use Rattle.diagram.proofs.UpTo.{map-upTo-cong}
 use Rattle.diagram.proofs.Order.{behind-lt}
-use Rattle.table.specs.Stream.{streamBit}
+use Rattle.block.specs.Bits.{streamBit}
 use Rattle.table.specs.declared.State.{State}
 use Rattle.table.specs.declared.Answer.{Answer}
 use Rattle.table.specs.declared.Answer.the-variants.{Done, ShortBuffer, NoTable}

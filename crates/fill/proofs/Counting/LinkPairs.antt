@@ -11,11 +11,11 @@ use lib.ListN.{length, getD, drop}
 use lib.Seq.{drop-drop, drop-at, getD-drop}
 use Rattle.diagram.specs.Lists.{digit}
 use Rattle.diagram.specs.Fill.{Link, const, entry}
-use Rattle.diagram.specs.Trace.{sameLink, differing}
+use Rattle.diagram.specs.inner.Trace.{sameLink, differing}
 use Rattle.diagram.proofs.Bools.{split, both-ways, and-T, and-l, and-r, beq→eq, beq-refl}
 use Rattle.diagram.proofs.Bits.{digit-le}
-use Rattle.table.specs.Stream.{sum}
-use Rattle.table.proofs.Sums.{sum-add, sum-cong}
+use Rattle.block.specs.Bits.{sum}
+use Rattle.block.proofs.Sums.{sum-add, sum-cong}
 use Rattle.reorder.specs.Sizes.{width}
 use Rattle.fill.specs.inner.Parts.{alwaysPart, agreePart, alongParts, candidatePart, levelParts, halfParts}
 use Rattle.fill.specs.Work.{regionSize, linkNumber, linkBytes, allLinks}

@@ -7,7 +7,7 @@ use Prim.Native.Nat.{ℕ, _+_, _*_}
 use lib.Dec.{eqb}
 use lib.ListN.{getD}
 use Rattle.diagram.specs.Lists.{digit}
-use Rattle.table.specs.Stream.{sum}
+use Rattle.block.specs.Bits.{sum}
 
 -- whether the two links at byte a differ
 unfoldable pub pairDiffers : List ℕ → ℕ → Bool

@@ -10,7 +10,7 @@ use lib.Seq.{sets}
 use Rattle.diagram.specs.Diagram.{inverts}
 use Rattle.diagram.specs.Network.{reference}
 use Rattle.diagram.specs.inner.Trace.{opposite}
-use Rattle.table.specs.Stream.{sum}
+use Rattle.block.specs.Bits.{sum}
 use Rattle.fill.specs.Work.{linksAt}
 
 -- what a number of two bytes is below

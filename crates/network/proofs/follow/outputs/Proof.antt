@@ -7,7 +7,7 @@ use Prim.Native.Nat.{ℕ, _≤_, _-_}
 use native.Mathlib.Omega.{arith}
 use denote.Ref.{now}
 use Rattle.network.specs.inner.Cells.{lentCells, outputAt}
-use Rattle.table.specs.Stream.{packed}
+use Rattle.block.specs.Bits.{packed}
 use Rattle.network.proofs.Outputs.{root-own, output-found, output-small, output-one, output-zero}
 use Rattle.network.proofs.follow.outputs.Statement.{statement}
 use Rattle.network.proofs.follow.outputs.Tie as tie

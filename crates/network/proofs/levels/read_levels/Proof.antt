@@ -5,7 +5,7 @@ use Prim.Native.Nat.{_≤_, _-_, _+_, _*_}
 use native.Mathlib.Omega.{arith}
 use denote.Ref.{now}
 use lib.ListN.{length, getD}
-use Rattle.table.specs.Stream.{sum}
+use Rattle.block.specs.Bits.{sum}
 use Rattle.network.specs.inner.Levels.{made, Made, levelAt, levelsMade}
 use Rattle.network.proofs.Offsets.{sum-above, at-above, at-rises}
 use Rattle.network.proofs.LevelTurns.{no-levels, turn-level, levels-work, levels-cells}

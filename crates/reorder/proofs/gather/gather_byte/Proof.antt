@@ -8,7 +8,7 @@ use mathlib.Core.Logic.{⊎-elim}
 use Prim.Native.Nat.{ℕ, _+_, _*_, _≤_, _-_}
 use native.Mathlib.Omega.{arith}
 use lib.ListN.{getD}
-use Rattle.table.specs.Stream.{streamBit}
+use Rattle.block.specs.Bits.{streamBit}
 use Rattle.reorder.specs.Gather.{gatheredByte}
 use Rattle.reorder.proofs.Gathered.{bit-set, bit-clear}
 use Rattle.reorder.proofs.gather.gather_byte.Statement.{statement}
