@@ -1,14 +1,14 @@
 -- The four ways a build ends: 10 for the roots, what the count refuses, 23, and the network.
 -- Assumes nothing.
 use mathlib.Core.Path.{_≡_, refl, sym, ap, _∙_, subst}
-use mathlib.Core.Bool.{Bool, true, false, not, _||_}
+use mathlib.Core.Bool.{Bool, true, false, not}
 use mathlib.Core.List.{List, [], _∷_}
 use mathlib.Core.Logic.{_↔_}
 use Prim.Native.Nat.{ℕ, _+_, _*_, _-_, _≤_, _<_}
 use native.Mathlib.Omega.{arith}
 use types.Run.{OneOf}
 use denote.Enum.Declared.{tagOf}
-use lib.Dec.{T, eqb}
+use lib.Dec.{T}
 use lib.ListN.{length, getD}
 use Rattle.diagram.specs.Bound.{mostVariables, mostOutputs}
 use Rattle.diagram.specs.Demands.{NoneFits}
@@ -29,7 +29,8 @@ use Rattle.fill.specs.Calls.{heldTable, countAnswer, levelsOf, linksWork}
 use Rattle.fill.proofs.CallLaws.{levels-answer}
 use Rattle.network.specs.Lent.{lentDiagram, rootsSize}
 use Rattle.network.specs.inner.Levels.{storedLimit, made, levelAt, levelsMade, rootAt}
-use Rattle.network.specs.Build.{wanted, capacity, reachesBoard, networkState, buildOutcome, buildRoots, buildCells, buildWork, Built}
+use Rattle.network.specs.Build.{wanted, capacity, reachesBoard, networkState, clears, buildOutcome, buildRoots, buildCells}
+use Rattle.network.specs.Build.{buildWork, Built}
 use Rattle.network.proofs.HeldRead.{kss, heldEntries, heldCounts}
 use Rattle.network.proofs.LentNetwork.{built-lent, fit-held}
 use Rattle.network.proofs.RootTurns.{roots-size}
@@ -43,7 +44,7 @@ use Rattle.network.proofs.Outcomes.{levels-counts}
 abbrev outcome : Answer → State → Outcome
 outcome x s = record { answer = x; state = s }
 
--- neither a success nor 23
+-- a test that fails does not hold
 never : {X : Type 0} {b : Bool} → b ≡ false → b ≡ true → X
 never f t = absurd-T {b = true} tt (sym t ∙ f)
 
@@ -89,7 +90,7 @@ module _ (s : State) (values care work roots cells : List ℕ) where
         let fc = sym (ap done counted) ∙ f in
         let q = count-refused s values care work roots cells h fc in
         let e = q .0 ∙ sym counted in
-        let g = ap (λ (y : Answer). done y || eqb (number y) 23) counted ∙ q .1 in (
+        let g = ap clears counted ∙ q .1 in (
           refused-outcome s values care work roots cells x e f,
           (
             refused-roots s values care work roots cells x e f,

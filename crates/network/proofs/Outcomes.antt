@@ -1,14 +1,14 @@
 -- What a build answers and leaves, by what the count answers and by the board.
 -- Assumes nothing.
 use mathlib.Core.Path.{_≡_, refl, sym, ap, _∙_}
-use mathlib.Core.Bool.{Bool, true, false, not, _&&_, _||_}
+use mathlib.Core.Bool.{Bool, true, false, not, _&&_}
 use mathlib.Core.List.{List, [], _∷_, _++_}
 use Prim.Native.Nat.{ℕ, _*_, _≤_, _<_}
 use native.Mathlib.Omega.{arith}
 use borrow.Author.Tests.{le-leb, lt-leb}
 use types.Run.{OneOf, miss}
 use denote.Enum.Declared.{tagOf}
-use lib.Dec.{T, eqb, leb}
+use lib.Dec.{T, leb}
 use lib.ListN.{length, getD, drop}
 use Rattle.diagram.specs.Table.{filled, cost}
 use Rattle.diagram.specs.Fill.{trace}
@@ -26,7 +26,8 @@ use Rattle.table.proofs.Answer.{the-type}
 use Rattle.fill.specs.Work.{workSize, traceWork, zeroWork}
 use Rattle.fill.specs.Calls.{heldTable, enough, countAnswer, levelsOf, linksWork, entryCounts, drawnOutputs, tenOf}
 use Rattle.network.specs.Lent.{numbersOf, rootsSize}
-use Rattle.network.specs.Build.{heldNetwork, wanted, capacity, longEnough, networkState, reachesBoard, buildAnswer, buildOutcome}
+use Rattle.network.specs.Build.{heldNetwork, wanted, capacity, longEnough, networkState, reachesBoard, clears, buildAnswer}
+use Rattle.network.specs.Build.{buildOutcome}
 use Rattle.network.specs.Build.{buildRoots, buildCells, buildWork}
 use Rattle.network.proofs.RootTurns.{roots-size}
 
@@ -98,7 +99,7 @@ module _ (s : State) (values care work roots cells : List ℕ) where
     unfolding buildAnswer
     answer-is = rw all-long
 
-    pub count-refused : done counted ≡ false → (answered ≡ counted) × ((done counted || eqb (number counted) 23) ≡ false)
+    pub count-refused : done counted ≡ false → (answered ≡ counted) × (clears counted ≡ false)
     unfolding countAnswer
     count-refused e =
         split (enough values care work)
@@ -160,11 +161,11 @@ module _ (s : State) (values care work roots cells : List ℕ) where
     unfolding buildCells
     refused-cells = rw (e, d)
 
-  pub work-kept : (x : Answer) → answered ≡ x → (done x || eqb (number x) 23) ≡ false → work ≡ buildWork s values care work roots cells
+  pub work-kept : (x : Answer) → answered ≡ x → clears x ≡ false → work ≡ buildWork s values care work roots cells
   unfolding buildWork
   work-kept x e d = rw (e, d)
 
-  pub work-cleared : (x : Answer) → answered ≡ x → (done x || eqb (number x) 23) ≡ true
+  pub work-cleared : (x : Answer) → answered ≡ x → clears x ≡ true
       → zeroWork work ≡ buildWork s values care work roots cells
   unfolding buildWork
   work-cleared x e d = rw (e, d)

@@ -71,10 +71,11 @@ buildCells s values care work roots cells =
     (numbersOf (heldNetwork s values care .nodes) ++ drop (3 * wanted s values care) cells) cells
 
 -- 'Every call lent the work buffer leaves it zero after a success or 23'
+abbrev pub clears : Answer → Bool
+clears a = done a || eqb (number a) 23
+
 unfoldable pub buildWork : State → List ℕ → List ℕ → List ℕ → List ℕ → List ℕ → List ℕ
-buildWork s values care work roots cells =
-    cond (done (buildAnswer s values care work roots cells) || eqb (number (buildAnswer s values care work roots cells)) 23)
-    (zeroWork work) work
+buildWork s values care work roots cells = cond (clears (buildAnswer s values care work roots cells)) (zeroWork work) work
 
 -- Demands 2 and 3 after a success: r is what the call answers, D the diagram in the lent cells and roots, and this the board
 pub record Built (s : State) (values care : List ℕ) (r : Outcome) (D : Diagram) (board : ℕ) : Type 0 where
