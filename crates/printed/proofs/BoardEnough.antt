@@ -26,7 +26,7 @@ use Rattle.printed.proofs.LoadedInput.{read-held, values-long, care-lon
 
 -- a table that is held is built, where the buffers have section 2's sizes and the board has 2,159 cells
 module _ (s : State) (values care work roots cells : List ℕ) where
-  pub build-done : isNothing (stageOf s) ≡ false → planeSize ≤ length values → planeSize ≤ length care → workSize ≤ length work
+  build-done : isNothing (stageOf s) ≡ false → planeSize ≤ length values → planeSize ≤ length care → workSize ≤ length work
       → rootsSize ≤ length roots → mostNodes ≤ capacity cells → buildAnswer s values care work roots cells ≡ Done (wanted s values care)
   unfolding buildAnswer
   build-done e v c w r b =

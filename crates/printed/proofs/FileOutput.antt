@@ -71,7 +71,7 @@ module _ (f : ℕ → ℕ) where
 
 -- buffers as the program lends them
 module _ (file values care work roots cells : List ℕ) (v : length values ≡ planeSize) (c : length care ≡ planeSize)
-    (w : length work ≡ workSize) (r : length roots ≡ rootsSize) (k : length cells ≡ 3 * mostNodes) where
+    (w : workSize ≤ length work) (r : rootsSize ≤ length roots) (k : 3 * mostNodes ≤ length cells) where
   -- the input is refused for itself alone
   load-file : loadAnswer file values care ≡ fileAnswer file
   unfolding loadAnswer
@@ -132,7 +132,7 @@ module _ (file values care work roots cells : List ℕ) (v : length values ≡ p
     board = omega arith
 
     builds : buildAnswer s vs cs work roots cells ≡ Done (wanted s vs cs)
-    builds = answer-done file values care work roots cells (omega arith) (omega arith) board was-read
+    builds = answer-done file values care work roots cells w r board was-read
 
     work-read : printedWork file values care work roots cells ≡ zeroWork work
     unfolding printedWork
@@ -166,7 +166,7 @@ module _ (file values care work roots cells : List ℕ) (v : length values ≡ p
         let o = done-outcome s vs cs work roots cells builds in
         let p = done-roots s vs cs work roots cells builds in
         let q = done-cells s vs cs work roots cells builds in
-        printed-whole file values care work roots cells (omega arith) (omega arith) board was-read
+        printed-whole file values care work roots cells w r board was-read
         ∙ sym (λ i. textOf (o i .state) cs (p i) (q i))
 
     text-read : printedText file values care work roots cells ≡ fileText file
@@ -215,7 +215,7 @@ module _ (file values care work roots cells : List ℕ) (v : length values ≡ p
       (numbersOf (fileNetwork file .nodes) ++ drop (3 * length (fileNetwork file .nodes)) cells) cells cells-read (λ e. rw (unread e))
 
   -- a text that has room is written whole
-  text-whole : {before after : List ℕ} {behind : ℕ} → length before ≡ textSize
+  text-whole : {before after : List ℕ} {behind : ℕ} → textSize ≤ length before
       → Written before after 0 behind (printedText file values care work roots cells) → Whole before after behind (outputOf file)
   text-whole {before} {after} {behind} h t =
       let text = printedText file values care work roots cells in
@@ -227,7 +227,7 @@ module _ (file values care work roots cells : List ℕ) (v : length values ≡ p
       })
 
   -- all that the program's one call promises, from what its part on slices does
-  pub all-left : {before after : List ℕ} {behind : ℕ} (values′ care′ work′ roots′ cells′ : List ℕ) → length before ≡ textSize
+  pub all-left : {before after : List ℕ} {behind : ℕ} (values′ care′ work′ roots′ cells′ : List ℕ) → textSize ≤ length before
       → Left file values care work roots cells before after behind values′ care′ work′ roots′ cells′
       → Whole before after behind (outputOf file) × ((values′ ≡ outputValues file values) × ((care′ ≡ outputCare file care)
       × ((work′ ≡ outputWork file work) × ((roots′ ≡ outputRoots file roots) × (cells′ ≡ outputCells file cells)))))

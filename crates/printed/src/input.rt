@@ -6,7 +6,7 @@ use table::load::load;
 ghost use mathlib.Core.Path.{_≡_};
 ghost use Rattle.printed.specs.Input.{inputOutcome, inputValues, inputCare};
 
-// The longest input.
+// The longest input; specs/Input.antt has the definition, `longestInput`.
 pub const LONGEST: usize = 65536;
 
 // Loads a program's input. Refuses with 1 if it is too long, then as load does.

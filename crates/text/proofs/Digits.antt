@@ -5,7 +5,7 @@ use mathlib.Core.List.{List, [], _∷_, _++_}
 use Prim.Native.Nat.{ℕ, zero, suc, _+_, _-_, _/_, _%_, _≤_, _<_}
 use native.Mathlib.Omega.{arith}
 use borrow.Author.Tests.{lt-ltb, le-ltb}
-use Rattle.text.specs.Text.{digits, decimal, spaced}
+use Rattle.text.specs.Text.{space, digits, decimal, spaced}
 use Rattle.text.specs.Written.{Written}
 use Rattle.text.proofs.Writing.{written-then, written-as}
 
@@ -28,7 +28,7 @@ pub written-digits : {l m n : List ℕ} {i j k : ℕ} (f x : ℕ) → 10 ≤ x �
     → Written m n j k ((48 + x % 10) ∷ []) → Written l n i k (digits f x)
 written-digits f x h p u v = written-as (sym (digits-more f x h (omega (arith, p)))) (written-then u v)
 
-pub written-spaced : {l m n : List ℕ} {i j k : ℕ} (x : ℕ) → Written l m i j (32 ∷ []) → Written m n j k (digits 19 x)
+pub written-spaced : {l m n : List ℕ} {i j k : ℕ} (x : ℕ) → Written l m i j space → Written m n j k (digits 19 x)
     → Written l n i k (spaced x)
 unfolding spaced decimal
 written-spaced x u v = written-then u v

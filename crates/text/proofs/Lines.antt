@@ -1,7 +1,7 @@
 -- The lines, written part by part.
 -- Assumes nothing.
 use mathlib.Core.Path.{_≡_, sym, ap, _∙_}
-use mathlib.Core.List.{List, [], _∷_}
+use mathlib.Core.List.{List}
 use mathlib.Core.Bool.{Bool, true, false}
 use Prim.Native.Nat.{ℕ, _+_, _*_, _/_, _≤_, min}
 use lib.ListN.{length, getD}
@@ -19,6 +19,7 @@ use Rattle.text.specs.Text.{
   cell-word,
   root-word,
   row-word,
+  newline,
   spaced,
   inTurn,
   line,
@@ -44,13 +45,13 @@ spaced-as : {l m : List ℕ} {i j x y : ℕ} → x ≡ y → Written l m i j (sp
 spaced-as e w = written-as (ap spaced e) w
 
 pub written-line : {l m n o : List ℕ} {i j k q : ℕ} (w : List ℕ) (x : ℕ) → Written l m i j w → Written m n j k (spaced x)
-    → Written n o k q (10 ∷ []) → Written l o i q (line w x)
+    → Written n o k q newline → Written l o i q (line w x)
 unfolding line
 written-line w x u v e = written-then u (written-then v e)
 
 -- two parts, and three
 pub written-answer : {l m n o : List ℕ} {i j k q : ℕ} (a : Answer) (x y : ℕ) → x ≡ number a → y ≡ value a → Written l m i j (spaced x)
-    → Written m n j k (spaced y) → Written n o k q (10 ∷ []) → Written l o i q (answered a)
+    → Written m n j k (spaced y) → Written n o k q newline → Written l o i q (answered a)
 unfolding answered
 written-answer a x y p r u v e = written-then (spaced-as p u) (written-then (spaced-as r v) e)
 
@@ -66,7 +67,7 @@ written-row b a u v w = written-then u (written-then v w)
 
 pub written-node : {l m n o z : List ℕ} {i j k q t : ℕ} (cells : List ℕ) (p a b c : ℕ) → a ≡ getD cells (3 * p) 0
     → b ≡ getD cells (3 * p + 1) 0 → c ≡ getD cells (3 * p + 2) 0 → Written l m i j (spaced a) → Written m n j k (spaced b)
-    → Written n o k q (spaced c) → Written o z q t (10 ∷ []) → Written l z i t (nodeText cells p)
+    → Written n o k q (spaced c) → Written o z q t newline → Written l z i t (nodeText cells p)
 unfolding nodeText
 written-node cells p a b c f g h u v w e =
     written-then (spaced-as f u) (written-then (spaced-as g v) (written-then (spaced-as h w) e))
@@ -77,13 +78,13 @@ unfolding cellLine
 written-cell cells p u v w = written-then u (written-then v w)
 
 pub written-root : {l m n o z : List ℕ} {i j k q t : ℕ} (roots : List ℕ) (p a : ℕ) → a ≡ getD roots p 0
-    → Written l m i j root-word → Written m n j k (spaced p) → Written n o k q (spaced a) → Written o z q t (10 ∷ [])
+    → Written l m i j root-word → Written m n j k (spaced p) → Written n o k q (spaced a) → Written o z q t newline
     → Written l z i t (rootLine roots p)
 unfolding rootLine
 written-root roots p a f u v w e = written-then u (written-then v (written-then (spaced-as f w) e))
 
 pub written-order : {l m n o : List ℕ} {i j k q : ℕ} (s : State) (a : ℕ) → a ≡ min (s .n) mostVariables → Written l m i j order-word
-    → Written m n j k (inTurn (λ p. spaced (getD (s .order) p 0)) a) → Written n o k q (10 ∷ []) → Written l o i q (stateOrder s)
+    → Written m n j k (inTurn (λ p. spaced (getD (s .order) p 0)) a) → Written n o k q newline → Written l o i q (stateOrder s)
 unfolding stateOrder orderLine
 written-order s a e u v w =
     written-then u (written-then (written-as (ap (inTurn (λ p. spaced (getD (s .order) p 0))) e) v) w)
