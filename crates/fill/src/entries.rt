@@ -5,7 +5,7 @@ use crate::part::always;
 use crate::part::merge;
 ghost use mathlib.Core.Path.{_≡_};
 ghost use mathlib.Core.List.{_++_};
-ghost use Prim.Native.Nat.{_+_, _*_, _≤_, _<_};
+ghost use Prim.Native.Nat.{_+_, _*_, _^_, _≤_, _<_};
 ghost use lib.ListN.{length, take, drop};
 ghost use Rattle.fill.specs.inner.Parts.{alongParts, candidatePart, chunks, flat};
 ghost use Rattle.fill.specs.Work.{linkNumber};
@@ -18,26 +18,36 @@ pub(crate) struct Linked {
     pub link: usize,
 }
 
-// Tries entry e, plain and then inverted, and where one agrees merges the candidate f into it. Returns the link's number, or 0.
+// Tries the part g of entry e, plain and then inverted, and where one agrees merges the candidate f into it. Returns the link's number, or 0.
+pub(crate) fn try_part(w: usize, f: &[u8], g: &mut [u8], e: usize) -> usize
+    requires { ⌜ (length (now f) ≡ w + w) × (length (now g) ≡ w + w) × (2 * (e + 1) + 1 < 2 ^ 64) ⌝ }
+    ensures link { λ r. ⌜ r ≡ triedLink w e (now (f .entry)) (now (g .entry)) ⌝ }
+    ensures part { λ _. ⌜ now (g .exit) ≡ triedPart w (now (f .entry)) (now (g .entry)) ⌝ }
+{
+    if agree(false, w, f, g) {
+        merge(false, w, f, g);
+        return 2 * (e + 1);
+    }
+    if agree(true, w, f, g) {
+        merge(true, w, f, g);
+        return 2 * (e + 1) + 1;
+    }
+    0
+}
+
+// The same of entry e in a region, whose part alone is lent.
 pub(crate) fn try_entry(w: usize, f: &[u8], region: &mut [u8], e: usize) -> usize
     requires { ⌜ 0 < w ⌝ }
     requires { ⌜ length (now f) ≡ w + w ⌝ }
     requires { ⌜ (e + 1) * (w + w) ≤ length (now region) ⌝ }
     ensures { λ r. ⌜ r ≡ triedLink w e (now (f .entry)) (take (w + w) (drop (e * (w + w)) (now (region .entry)))) ⌝ }
     ensures { λ _. ⌜ now (region .exit)
-        ≡ splice (now (region .entry)) (e * (w + w)) (triedPart w (now (f .entry)) (take (w + w) (drop (e * (w + w)) (now (region .entry))))) ⌝ }
+        ≡ splice (now (region .entry)) (e * (w + w))
+        (triedPart w (now (f .entry)) (take (w + w) (drop (e * (w + w)) (now (region .entry))))) ⌝ }
 {
     let a = e * (w + w);
     let b = a + (w + w);
-    if agree(false, w, f, &region[a..b]) {
-        merge(false, w, f, &mut region[a..b]);
-        return 2 * (e + 1);
-    }
-    if agree(true, w, f, &region[a..b]) {
-        merge(true, w, f, &mut region[a..b]);
-        return 2 * (e + 1) + 1;
-    }
-    0
+    try_part(w, f, &mut region[a..b], e)
 }
 
 // Links the candidate f to the first of k entries that agrees, else behind them.

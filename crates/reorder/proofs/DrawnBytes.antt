@@ -6,11 +6,10 @@ use mathlib.Core.List.{[], _∷_, _++_, map}
 use Prim.Native.Nat.{ℕ, zero, suc, _+_, _*_, _^_, _≤_, _<_, min}
 use native.Mathlib.Nat.{not-suc-le-zero, add-zero, zero-add, add-suc, mul-zero, two-pow-succ, min-eq-left, min-eq-right, le-of-lt}
 use native.Mathlib.Omega.{arith}
-use lib.ListN.{getD}
 use lib.Pow.{pow-add, pow-mono}
 use Rattle.diagram.specs.Lists.{digit, upTo}
 use Rattle.diagram.specs.Tree.{draw}
-use Rattle.diagram.proofs.UpTo.{map-upTo-cong, map-upTo-add, getD-map-upTo}
+use Rattle.diagram.proofs.UpTo.{map-upTo-cong, map-upTo-add}
 use Rattle.reorder.specs.Sizes.{width}
 use Rattle.reorder.specs.inner.Pack.{num, pack}
 use Rattle.block.specs.Bits.{packed}

@@ -3,20 +3,17 @@
 -- Assumes nothing.
 use mathlib.Core.Path.{_≡_, refl, ap, ap₂, _∙_}
 use mathlib.Core.Bool.{Bool, true, false}
-use mathlib.Core.List.{List, [], _∷_, _++_}
+use mathlib.Core.List.{[], _∷_, _++_}
 use Prim.Native.Nat.{ℕ, zero, suc, _+_, _*_, _^_, _≤_, _<_}
-use native.Mathlib.Nat.{lt-of-lt-of-le, two-pow-succ, not-suc-le-zero}
+use native.Mathlib.Nat.{two-pow-succ, not-suc-le-zero}
 use native.Mathlib.Omega.{arith}
 use lib.Arith.{digits-lt, le→nltb}
-use lib.Dec.{T, ltb, ltb→lt, lt→ltb, nltb→le}
-use lib.ListN.{length, getD, length-append, List·getD-eq-default, List·getD-append}
-use lib.Seq.{getD-append-add}
-use lib.Pow.{pow-add, pow-mono}
-use Rattle.diagram.specs.Lists.{digit, all}
+use lib.Dec.{ltb, ltb→lt, lt→ltb, nltb→le}
+use lib.ListN.{length, length-append}
+use lib.Pow.{pow-add}
 use Rattle.diagram.specs.Tree.{Tree, leaf, node}
 use Rattle.diagram.specs.Fill.{Row}
-use Rattle.diagram.proofs.Bools.{split, of-T, of-not, to-T, to-not, and-T}
-use Rattle.diagram.proofs.Lists.{all-at, all-append}
+use Rattle.diagram.proofs.Bools.{split, of-T, of-not, to-T, to-not}
 use Rattle.diagram.proofs.Bits.{digit-le}
 use Rattle.reorder.specs.Sizes.{width}
 use Rattle.reorder.specs.inner.Pack.{num, pack, encode}

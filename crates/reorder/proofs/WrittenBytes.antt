@@ -1,4 +1,4 @@
--- A list that is written one element at a time, from the front or from a place on.
+-- A list that is written one element at a time, from the front or from a byte on.
 -- Assumes nothing.
 use mathlib.Core.Path.{_≡_, sym, ap, ap₂, _∙_}
 use mathlib.Core.List.{List, [], _∷_, _++_, map, append-assoc, map-append}
@@ -27,7 +27,7 @@ written-more p m e f k l h =
     ∙ ap (λ (r : List ℕ). r ++ drop (suc (m + k)) l) (sym (map-append f (upTo k) (k ∷ [])) ∙ ap (λ j. map f (upTo j)) (sym (add-one k)))
     ∙ ap (λ j. map f (upTo (k + 1)) ++ drop j l) (sym z))
 
--- from place m on
+-- from byte m on
 module _ (f : ℕ → ℕ) (m : ℕ) (l : List ℕ) where
   abbrev pub writtenFrom : ℕ → List ℕ
   writtenFrom k = take m l ++ (map f (upTo k) ++ drop (m + k) l)

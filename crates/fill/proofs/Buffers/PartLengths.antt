@@ -1,4 +1,4 @@
--- How long parts are, and how many: of regions, of placements and of levels.
+-- How long parts are, and how many: of regions, of candidates linked and of levels.
 -- Assumes nothing.
 use mathlib.Core.Path.{_≡_, refl, sym, ap, ap₂, _∙_}
 use mathlib.Core.Bool.{true, false}

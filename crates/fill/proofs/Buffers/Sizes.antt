@@ -1,7 +1,8 @@
--- The sizes of the work buffer's parts as numbers, for `omega`.
+-- The sizes of the lent buffers and their parts as numbers, for `omega`.
 -- Assumes nothing.
 use mathlib.Core.Path.{_≡_, refl}
 use native.Mathlib.Omega.{arith}
+use Rattle.table.specs.Calls.{planeSize}
 use Rattle.fill.specs.Work.{workSize, linksAt}
 
 pub work-size : workSize ≡ 32768
@@ -12,4 +13,8 @@ pub links-at : linksAt ≡ 8192
 unfolding linksAt
 links-at = refl
 
-pub ruleset sizes = (arith, work-size, links-at)
+pub plane-size : planeSize ≡ 2048
+unfolding planeSize
+plane-size = refl
+
+pub ruleset sizes = (arith, work-size, links-at, plane-size)

@@ -1,4 +1,4 @@
--- The work buffer while a level's candidates are placed: the entries' parts in a region at `to`, the links at `links` behind it.
+-- The work buffer while a level's candidates are linked: the entries' parts in a region at `to`, the links at `links` behind it.
 -- Assumes nothing.
 use mathlib.Core.Path.{_≡_, sym, ap, ap₂, _∙_}
 use mathlib.Core.List.{List, [], _++_}
@@ -76,7 +76,7 @@ module _ (s to links : ℕ) (work : List ℕ) (behind : to + regionSize ≤ link
       ∙ ap (splice (splice work to x′) links) (sym (links-append ls ls′))
 
 -- Candidates hs after candidates fs, of w bytes of values: k entries are there, m is the work buffer then and m′ the one afterwards,
--- n the place of the links.
+-- n where the links go.
 module _ (w to links : ℕ) (work : List ℕ) (behind : to + regionSize ≤ links) (in-work : links ≤ length work)
     (gs fs hs : List (List ℕ)) (lg : Long (w + w) gs) (lf : Long (w + w) fs) (lh : Long (w + w) hs)
     (room : (length gs + (length fs + length hs)) * (w + w) ≤ regionSize) where

@@ -28,25 +28,21 @@ module _ (s : State) (values care work : List ℕ) where
   unfolding countAnswer
   not-enough e = rw e
 
-  pub short-values : length values < 2048 → countAnswer s values care work ≡ ShortBuffer
-  unfolding planeSize
-  short-values h = not-enough (rw (lt-leb 2048 (length values) h))
+  pub short-values : length values < planeSize → countAnswer s values care work ≡ ShortBuffer
+  short-values h = not-enough (rw (lt-leb planeSize (length values) h))
 
-  pub short-care : length care < 2048 → countAnswer s values care work ≡ ShortBuffer
-  unfolding planeSize
-  short-care h = not-enough (rw (lt-leb 2048 (length care) h) (and-false (leb 2048 (length values))))
+  pub short-care : length care < planeSize → countAnswer s values care work ≡ ShortBuffer
+  short-care h = not-enough (rw (lt-leb planeSize (length care) h) (and-false (leb planeSize (length values))))
 
   pub short-work : length work < workSize → countAnswer s values care work ≡ ShortBuffer
-  unfolding planeSize workSize
   short-work h =
       not-enough
       (rw (lt-leb workSize (length work) h)
-      (ap (λ (b : Bool). leb 2048 (length values) && b) (and-false (leb 2048 (length care))) ∙ and-false (leb 2048 (length values))))
+      (ap (λ (b : Bool). leb planeSize (length values) && b) (and-false (leb planeSize (length care))) ∙ and-false (leb planeSize (length values))))
 
-  module _ (v : 2048 ≤ length values) (c : 2048 ≤ length care) (w : workSize ≤ length work) where
+  module _ (v : planeSize ≤ length values) (c : planeSize ≤ length care) (w : workSize ≤ length work) where
     is-enough : enough values care work ≡ true
-    unfolding planeSize workSize
-    is-enough = rw (le-leb 2048 (length values) v, le-leb 2048 (length care) c, le-leb workSize (length work) w)
+    is-enough = rw (le-leb planeSize (length values) v, le-leb planeSize (length care) c, le-leb workSize (length work) w)
 
     pub no-table : not (isNothing (stageOf s)) ≡ false → countAnswer s values care work ≡ NoTable
     unfolding countAnswer

@@ -4,7 +4,7 @@ use mathlib.Core.Path.{_≡_, refl, sym, ap, ap₂, _∙_, subst}
 use mathlib.Core.Bool.{true}
 use mathlib.Core.List.{List, [], _∷_, _++_, map, sum, map-map}
 use mathlib.Core.Logic.{inl}
-use Prim.Native.Nat.{ℕ, _+_, _*_, _^_, _≤_}
+use Prim.Native.Nat.{ℕ, _+_, _*_, _≤_}
 use lib.Dec.{T}
 use lib.ListN.{length, take, drop, length-append, length-map}
 use Rattle.diagram.specs.Lists.{upTo}
@@ -12,7 +12,7 @@ use Rattle.diagram.specs.Tree.{Tree}
 use Rattle.diagram.specs.Fill.{Row, Link, level, trace, fill}
 use Rattle.diagram.specs.inner.Trace.{differing, tracedCounts}
 use Rattle.diagram.specs.Network.{counts, count}
-use Rattle.diagram.specs.Bound.{mostVariables, mostOutputs, mostNodes}
+use Rattle.diagram.specs.Bound.{mostVariables, mostOutputs}
 use Rattle.diagram.specs.Table.{reordered}
 use Rattle.diagram.proofs.Fill.{links-length, fill-length}
 use Rattle.diagram.proofs.Traced.{traced-counts}
@@ -74,7 +74,7 @@ first-is {n} fs work z xs r m p q a b =
       b ∙ ap₂ (λ (l : LevelParts) (y : List ℕ). splice (splice y 0 (flat (l .parts))) linksAt (linkBytes (l .links))) e q,
     )
 
-module _ {n : ℕ} (fs : List (Tree Row n)) (small : n ≤ 10) (few : length fs ≤ 16) where
+module _ {n : ℕ} (fs : List (Tree Row n)) (small : n ≤ mostVariables) (few : length fs ≤ mostOutputs) where
   rows : Rows fs
   rows = stream-small n (length fs) small few
 
@@ -170,7 +170,7 @@ module _ {n : ℕ} (fs : List (Tree Row n)) (small : n ≤ 10) (few : length fs 
           ∙ sym (counts-traced n fs))
 
 -- the cells in all
-pub cells-filled : {n : ℕ} (fs : List (Tree Row n)) (cs : List ℕ) → n ≤ 10 → length fs ≤ 16 → cs ≡ perLevel (counts true n (fill true n fs))
+pub cells-filled : {n : ℕ} (fs : List (Tree Row n)) (cs : List ℕ) → n ≤ mostVariables → length fs ≤ mostOutputs → cs ≡ perLevel (counts true n (fill true n fs))
     → (sum _+_ 0 cs ≡ count true n (fill true n fs)) × (sum _+_ 0 cs ≤ 65535)
 cells-filled {n} fs cs small few e =
     let ts = fill true n fs in

@@ -7,6 +7,7 @@ use mathlib.Core.Logic.{inl}
 use Prim.Native.Nat.{ℕ, _+_, _*_, _≤_}
 use lib.Dec.{T}
 use lib.ListN.{length, take}
+use Rattle.diagram.specs.Bound.{mostOutputs}
 use Rattle.diagram.specs.Fill.{level, trace}
 use Rattle.diagram.specs.Network.{counts}
 use Rattle.diagram.specs.Table.{reordered, filled, cost}
@@ -29,7 +30,7 @@ module _ (s : State) (values care : List ℕ) (held : T (not (isNothing (stageOf
   outputs : length (drawnOutputs s values care) ≡ s .m
   outputs = length-map-upTo (reordered (heldTable s values care) (orderOf s)) (s .m)
 
-  few : length (drawnOutputs s values care) ≤ 16
+  few : length (drawnOutputs s values care) ≤ mostOutputs
   few = omega (sizes, outputs, few-outputs s held)
 
   -- what lies past the work buffer's size is as it was

@@ -1,4 +1,4 @@
--- A list as ten numbers, with zeros past its end: made one number at a time, read back, and added up.
+-- A list as an array with a number for each level, and zeros past its end: made one number at a time, read back, and added up.
 -- Assumes nothing.
 use mathlib.Core.Path.{_≡_, refl, sym, ap, _∙_}
 use mathlib.Core.Bool.{cond}
@@ -10,6 +10,7 @@ use borrow.Author.Tests.{ltb-true, ltb-false}
 use lib.Dec.{ltb}
 use lib.ListN.{length, getD, take, set, length-append, List·getD-append, List·getD-eq-default}
 use lib.Seq.{length-take-le, take-suc, take-all, getD-at, getD-take, ext-getD}
+use Rattle.diagram.specs.Bound.{mostVariables}
 use Rattle.diagram.specs.Lists.{upTo}
 use Rattle.diagram.proofs.Bools.{split}
 use Rattle.diagram.proofs.UpTo.{map-upTo-cong, getD-map-upTo}
@@ -17,29 +18,29 @@ use Rattle.table.proofs.Filled.{filled, filled-more}
 use Rattle.fill.specs.Calls.{perLevel}
 
 -- the first numbers of a longer list
-ten-filled : (xs ys : List ℕ) → perLevel xs ≡ filled (λ w. getD (xs ++ ys) w 0) 10 (length xs)
-ten-filled xs ys =
-    map-upTo-cong 10 (λ w. getD xs w 0) (λ w. cond (ltb w (length xs)) (getD (xs ++ ys) w 0) 0)
+per-level-filled : (xs ys : List ℕ) → perLevel xs ≡ filled (λ w. getD (xs ++ ys) w 0) mostVariables (length xs)
+per-level-filled xs ys =
+    map-upTo-cong mostVariables (λ w. getD xs w 0) (λ w. cond (ltb w (length xs)) (getD (xs ++ ys) w 0) 0)
     (λ w h. split (ltb w (length xs))
     (λ e. rw e (sym (List·getD-append xs ys 0 w (ltb-true w (length xs) e))))
     (λ e. rw e (List·getD-eq-default xs 0 (ltb-false w (length xs) e))))
 
 -- one number more
-pub per-level-more : (xs : List ℕ) (x j : ℕ) (l : List ℕ) → j ≡ length xs → length xs < 10 → l ≡ perLevel xs → set l j x ≡ perLevel (xs ++ (x ∷ []))
+pub per-level-more : (xs : List ℕ) (x j : ℕ) (l : List ℕ) → j ≡ length xs → length xs < mostVariables → l ≡ perLevel xs → set l j x ≡ perLevel (xs ++ (x ∷ []))
 per-level-more xs x j l e h q =
     let ys = xs ++ (x ∷ []) in
     let n : length xs + 1 ≡ length ys = sym (length-append xs (x ∷ [])) in
     ap (λ (k : ℕ). set l k x) e
-    ∙ filled-more (λ w. getD ys w 0) 10 (length xs) h l x (q ∙ ten-filled xs (x ∷ [])) (sym (getD-at xs x [] 0 (length xs) refl))
-    ∙ ap (filled (λ w. getD ys w 0) 10) n
-    ∙ ap (λ (zs : List ℕ). filled (λ w. getD zs w 0) 10 (length ys)) (sym (append-nil ys))
-    ∙ sym (ten-filled ys [])
+    ∙ filled-more (λ w. getD ys w 0) mostVariables (length xs) h l x (q ∙ per-level-filled xs (x ∷ [])) (sym (getD-at xs x [] 0 (length xs) refl))
+    ∙ ap (filled (λ w. getD ys w 0) mostVariables) n
+    ∙ ap (λ (zs : List ℕ). filled (λ w. getD zs w 0) mostVariables (length ys)) (sym (append-nil ys))
+    ∙ sym (per-level-filled ys [])
 
-pub per-level-at : (xs : List ℕ) (k : ℕ) → k < 10 → getD (perLevel xs) k 0 ≡ getD xs k 0
-per-level-at xs k h = getD-map-upTo (λ w. getD xs w 0) 10 k 0 h
+pub per-level-at : (xs : List ℕ) (k : ℕ) → k < mostVariables → getD (perLevel xs) k 0 ≡ getD xs k 0
+per-level-at xs k h = getD-map-upTo (λ w. getD xs w 0) mostVariables k 0 h
 
 -- the list again
-pub per-level-take : (xs : List ℕ) (n : ℕ) → length xs ≡ n → n ≤ 10 → take n (perLevel xs) ≡ xs
+pub per-level-take : (xs : List ℕ) (n : ℕ) → length xs ≡ n → n ≤ mostVariables → take n (perLevel xs) ≡ xs
 per-level-take xs n e h =
     let l : length (take n (perLevel xs)) ≡ n = length-take-le n (perLevel xs) h in
     ext-getD 0 (take n (perLevel xs)) xs (l ∙ sym e)
@@ -69,5 +70,5 @@ sum-getD xs (suc j) =
     ∙ add-zero (sum _+_ 0 (take j xs))
     ∙ ap (sum _+_ 0) (take-all j xs h ∙ sym (take-all (suc j) xs (omega arith))))
 
-pub sum-per-level : (xs : List ℕ) → length xs ≤ 10 → sum _+_ 0 (perLevel xs) ≡ sum _+_ 0 xs
-sum-per-level xs h = sum-getD xs 10 ∙ ap (sum _+_ 0) (take-all 10 xs h)
+pub sum-per-level : (xs : List ℕ) → length xs ≤ mostVariables → sum _+_ 0 (perLevel xs) ≡ sum _+_ 0 xs
+sum-per-level xs h = sum-getD xs mostVariables ∙ ap (sum _+_ 0) (take-all mostVariables xs h)

@@ -8,6 +8,7 @@ use native.Mathlib.Nat.{zero-add}
 use lib.Dec.{T}
 use lib.ListN.{length, set, drop, replicate, length-append, length-drop}
 use lib.Seq.{length-take-le}
+use Rattle.diagram.specs.Bound.{mostVariables}
 use Rattle.reorder.specs.Sizes.{width}
 use Rattle.fill.specs.Work.{workSize, regionSize, linksAt, linkBytes, allLinks}
 use Rattle.fill.specs.inner.Splice.{splice}
@@ -111,7 +112,7 @@ module _ (n : ℕ) (all : List (List ℕ)) (before work : List ℕ) (big : workS
           ),
         )
 
-    pub going-on : (r : ℕ) (m′ entries′ : List ℕ) → n ≤ 10
+    pub going-on : (r : ℕ) (m′ entries′ : List ℕ) → n ≤ mostVariables
         → r ≡ length (levelBelow d (partsAt (suc d) k from m) .parts)
         → m′ ≡ splice (written (levelBelow d (partsAt (suc d) k from m)) (regionSize - from) links m) from (replicate regionSize 0)
         → entries′ ≡ set entries (n - suc d) k

@@ -1,4 +1,4 @@
--- A candidate f placed among the k entries of a region l: the entries are tried one after the other.
+-- A candidate f linked among the k entries of a region l: the entries are tried one after the other.
 -- Assumes nothing.
 use mathlib.Core.Path.{_≡_, refl, sym, ap, ap₂, _∙_, subst}
 use mathlib.Core.Bool.{Bool, true, false}
@@ -41,11 +41,11 @@ unfolding candidatePart
 candidate-constant false w f gs h t = rw t
 candidate-constant true w f gs h t = let s = h refl in rw (s, t)
 
--- entries put before those that a candidate is placed among
+-- entries put before those that a candidate is linked among
 abbrev ahead : List (List ℕ) → LinkedPart → LinkedPart
 ahead gs p = record { parts = gs ++ p .parts; link = p .link }
 
--- what a placement comes to, as numbers and bytes: the region l holds the parts, and is as it was behind them
+-- what linking comes to, as numbers and bytes: the region l holds the parts, and is as it was behind them
 abbrev pub Shown : ℕ → List ℕ → LinkedPart → ℕ → ℕ → List ℕ → Type 0
 Shown s l p n k m = (n ≡ length (p .parts)) × ((k ≡ linkNumber (p .link)) × (m ≡ flat (p .parts) ++ drop (length (p .parts) * s) l))
 
@@ -111,7 +111,7 @@ module _ (w : ℕ) (f l : List ℕ) (k : ℕ) where
       let r = shown-at s l (alongParts w 0 f (chunks s k l)) e n (mergePart i w f g) i (length-merge i w f g) q in
       (sym c ∙ r .0, (tried-link i w e f g a ∙ r .1 .0, ap (splice l (e * s)) (tried-part i w f g a) ∙ r .1 .1))
 
-  -- a turn at entry e, in a region m that is as it was, leaves x: f is placed, or the entry is passed
+  -- a turn at entry e, in a region m that is as it was, leaves x: f is linked, or the entry is passed
   module _ (e : ℕ) (m x : List ℕ) (link : ℕ) (h : e < k) (same : m ≡ l) (p : Passed e)
       (is : link ≡ triedLink w e f (take (w + w) (drop (e * (w + w)) m)))
       (left : x ≡ splice m (e * (w + w)) (triedPart w f (take (w + w) (drop (e * (w + w)) m)))) where

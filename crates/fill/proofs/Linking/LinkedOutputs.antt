@@ -1,12 +1,12 @@
 -- The outputs linked one after the other at level 0, in a work buffer whose first links are theirs.
 -- Assumes nothing.
-use mathlib.Core.Path.{_≡_, refl, sym, ap, ap₂, _∙_, subst}
+use mathlib.Core.Path.{_≡_, refl, sym, ap, _∙_, subst}
 use mathlib.Core.List.{List, [], _∷_, _++_, map, map-append}
-use Prim.Native.Nat.{ℕ, _+_, _*_, _-_, _^_, _≤_, _<_}
+use Prim.Native.Nat.{ℕ, _+_, _*_, _-_, _≤_, _<_}
 use native.Mathlib.Nat.{mul-le-mul}
 use native.Mathlib.Numerals.{add-one}
-use lib.ListN.{length, take, drop, length-append}
-use lib.Seq.{take-at}
+use lib.ListN.{length}
+use Rattle.diagram.specs.Bound.{mostVariables, mostOutputs}
 use Rattle.diagram.specs.Lists.{upTo}
 use Rattle.diagram.proofs.UpTo.{length-map-upTo}
 use Rattle.fill.specs.Work.{workSize, regionSize, linksAt}
@@ -45,12 +45,12 @@ module _ (n : ℕ) (values care rows : List ℕ) where
   unfolding levelParts
   linked-none work = record { entries = refl; buffer = sym (written-none 0 linksAt work) }
 
-  module _ (work : List ℕ) (j k : ℕ) (m : List ℕ) (small : n ≤ 10) (few : j < 16) (so-far : Linked work j k m) where
+  module _ (work : List ℕ) (j k : ℕ) (m : List ℕ) (small : n ≤ mostVariables) (few : j < mostOutputs) (so-far : Linked work j k m) where
     pub output-room : (k + 1) * (width n + width n) ≤ regionSize
     output-room =
         let g = level-grown (width n) [] (firstOutputs j) tt (outputs-long j) in
-        let c : k + 1 ≤ 16 = omega (sizes, so-far .entries, g .2, length-map-upTo (gatheredPart values care rows n) j) in
-        mul-le-mul {n₂ = 16} {m₂ = 256} c (omega (sizes, part-size, width-room n small))
+        let c : k + 1 ≤ mostOutputs = omega (sizes, so-far .entries, g .2, length-map-upTo (gatheredPart values care rows n) j) in
+        mul-le-mul {n₂ = mostOutputs} {m₂ = 256} c (omega (sizes, part-size, width-room n small))
 
     pub output-linked : (r : ℕ) (m′ : List ℕ) → workSize ≤ length work
         → r ≡ length (levelParts (width n) (partsAt n k 0 m) (gatheredPart values care rows n j ∷ []) .parts)
@@ -63,7 +63,7 @@ module _ (n : ℕ) (values care rows : List ℕ) where
         let c : length fs ≡ j = length-map-upTo (gatheredPart values care rows n) j in
         let room : (0 + (length fs + 1)) * (w + w) ≤ regionSize =
         subst (λ (y : ℕ). (0 + (y + 1)) * (w + w) ≤ regionSize) (sym c)
-        (mul-le-mul {n₂ = 16} {m₂ = 256} (omega sizes) (omega (sizes, part-size, width-room n small))) in
+        (mul-le-mul {n₂ = mostOutputs} {m₂ = 256} (omega sizes) (omega (sizes, part-size, width-room n small))) in
         let t =
         level-step w 0 linksAt work (omega sizes) (omega sizes) [] fs (g ∷ []) tt (outputs-long j) (length-gathered values care rows n j, tt) room
         k r (linksAt + 2 * j) m m′ (so-far .entries) (so-far .buffer) (omega sizes) p q in

@@ -1,32 +1,28 @@
 -- A level of the filling on parts of bytes is the level on the entries themselves; and entries stored one after the other, cut
 -- again into their parts.
 -- Assumes nothing.
-use mathlib.Core.Path.{_≡_, refl, ap, ap₂, _∙_}
+use mathlib.Core.Path.{_≡_, refl, ap}
 use mathlib.Core.Bool.{true, false}
-use mathlib.Core.List.{List, [], _∷_, _++_, map, append-assoc}
-use Prim.Native.Nat.{ℕ, suc, _+_, _*_}
-use native.Mathlib.Omega.{arith}
-use lib.ListN.{length, take, drop, length-append}
-use lib.Seq.{take-at, drop-at}
+use mathlib.Core.List.{List, [], _∷_, map}
+use Prim.Native.Nat.{ℕ, suc}
 use Rattle.diagram.specs.Tree.{Tree}
 use Rattle.diagram.specs.Fill.{Row, always, agree, Linked, Level, along, candidate, level}
 use Rattle.diagram.proofs.Bools.{split}
 use Rattle.reorder.specs.Sizes.{width}
 use Rattle.reorder.specs.inner.Pack.{encode}
-use Rattle.fill.specs.inner.Parts.{LinkedPart, LevelParts, afterPart, alongParts, candidatePart, levelParts, chunks, flat}
-use Rattle.reorder.proofs.Pack.{encode-length}
+use Rattle.fill.specs.inner.Parts.{LinkedPart, LevelParts, afterPart, alongParts, candidatePart, levelParts}
 use Rattle.fill.proofs.Parts.TreeTests.{always-bytes, agree-bytes, merge-bytes}
 
 -- what one candidate leaves, and what a level does, with the entries as parts
 
-abbrev pub placedPart : {d : ℕ} → Linked d → LinkedPart
-placedPart p = record { parts = map encode (p .entries); link = p .link }
+abbrev pub linkedPart : {d : ℕ} → Linked d → LinkedPart
+linkedPart p = record { parts = map encode (p .entries); link = p .link }
 
 abbrev pub levelPart : {d : ℕ} → Level d → LevelParts
 levelPart l = record { parts = map encode (l .entries); links = l .links }
 
 pub along-bytes : {d : ℕ} (k : ℕ) (f : Tree Row d) (gs : List (Tree Row d))
-    → alongParts (width d) k (encode f) (map encode gs) ≡ placedPart (along true k f gs)
+    → alongParts (width d) k (encode f) (map encode gs) ≡ linkedPart (along true k f gs)
 unfolding alongParts
 along-bytes k f [] = refl
 along-bytes k f (g ∷ gs) =
@@ -36,7 +32,7 @@ along-bytes k f (g ∷ gs) =
     (λ q. rw (agree-bytes true f g, q) (ap (afterPart (encode g)) (along-bytes (suc k) f gs)))))
 
 pub candidate-bytes : {d : ℕ} (f : Tree Row d) (gs : List (Tree Row d))
-    → candidatePart (width d) (encode f) (map encode gs) ≡ placedPart (candidate true f gs)
+    → candidatePart (width d) (encode f) (map encode gs) ≡ linkedPart (candidate true f gs)
 unfolding candidatePart
 candidate-bytes f gs =
     split (always false f) (λ e. rw (always-bytes false f, e))

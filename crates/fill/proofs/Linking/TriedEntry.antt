@@ -6,7 +6,8 @@ use mathlib.Core.List.{List, _++_}
 use Prim.Native.Nat.{ℕ, _+_, _*_, _≤_, _<_}
 use native.Mathlib.Nat.{mul-le-mul-left, mul-le-mul-right, not-suc-le-zero}
 use native.Mathlib.Omega.{arith}
-use lib.ListN.{length, take, drop}
+use lib.ListN.{length, take, drop, length-drop}
+use lib.Seq.{length-take-le}
 use Rattle.diagram.specs.Fill.{entry}
 use Rattle.diagram.proofs.Bools.{split}
 use Rattle.fill.specs.inner.Parts.{agreePart, mergePart}
@@ -71,29 +72,26 @@ tried-kept w e f l h t =
     let q = n .1 in
     rw (p, q) (splice-same l (e * (w + w)) (w + w) (omega arith))
 
--- entry e of a region l, lent as n bytes, where i is the first to agree: the merge x is put back
-module _ (w e n : ℕ) (f l : List ℕ) (same : n ≡ w + w) where
-  pub tried-found : (i : Bool) (x : List ℕ) → First i w f (take n (drop (e * (w + w)) l))
-      → x ≡ mergePart i w f (take n (drop (e * (w + w)) l))
-      → (linkNumber (entry e i) ≡ triedLink w e f (take (w + w) (drop (e * (w + w)) l)))
-      × (take (e * (w + w)) l ++ (x ++ drop n (drop (e * (w + w)) l))
-      ≡ splice l (e * (w + w)) (triedPart w f (take (w + w) (drop (e * (w + w)) l))))
-  tried-found i x h m =
-      let a = e * (w + w) in
-      let g : take n (drop a l) ≡ take (w + w) (drop a l) = ap (λ (y : ℕ). take y (drop a l)) same in
-      let t : First i w f (take (w + w) (drop a l)) = subst (First i w f) g h in (
-        sym (tried-link i w e f (take (w + w) (drop a l)) t),
-        put-back l a n x (ap length m ∙ length-merge i w f (take n (drop a l)) ∙ sym same)
-            ∙ ap (splice l a) (m ∙ ap (mergePart i w f) g ∙ sym (tried-part i w f (take (w + w) (drop a l)) t)),
-      )
+-- what is found of the part g, and that none is
+pub tried-none : (w e : ℕ) (f g : List ℕ) → agreePart false w f g ≡ false → agreePart true w f g ≡ false
+    → (0 ≡ triedLink w e f g) × (g ≡ triedPart w f g)
+unfolding triedLink triedPart
+tried-none w e f g p q = (rw (p, q), rw (p, q))
 
-  pub tried-none : (e + 1) * (w + w) ≤ length l
-      → agreePart false w f (take n (drop (e * (w + w)) l)) ≡ false → agreePart true w f (take n (drop (e * (w + w)) l)) ≡ false
-      → (0 ≡ triedLink w e f (take (w + w) (drop (e * (w + w)) l)))
-      × (l ≡ splice l (e * (w + w)) (triedPart w f (take (w + w) (drop (e * (w + w)) l))))
-  unfolding triedLink triedPart
-  tried-none h p q =
-      let a = e * (w + w) in
-      let p′ : agreePart false w f (take (w + w) (drop a l)) ≡ false = rw same at p in
-      let q′ : agreePart true w f (take (w + w) (drop a l)) ≡ false = rw same at q in
-      (rw (p′, q′), rw (p′, q′) (sym (splice-same l a (w + w) (omega arith))))
+length-tried : (w : ℕ) (f g : List ℕ) → length g ≡ w + w → length (triedPart w f g) ≡ w + w
+unfolding triedPart
+length-tried w f g h =
+    split (agreePart false w f g) (λ p. rw p (length-merge false w f g))
+    (λ p. split (agreePart true w f g) (λ q. rw (p, q) (length-merge true w f g)) (λ q. rw (p, q) h))
+
+-- the part of entry e in a region l, lent as n bytes, is put back as x
+pub tried-back : (w e n : ℕ) (f l x : List ℕ) → n ≡ w + w → (e + 1) * (w + w) ≤ length l
+    → x ≡ triedPart w f (take n (drop (e * (w + w)) l))
+    → take (e * (w + w)) l ++ (x ++ drop n (drop (e * (w + w)) l))
+    ≡ splice l (e * (w + w)) (triedPart w f (take (w + w) (drop (e * (w + w)) l)))
+tried-back w e n f l x same h m =
+    let a = e * (w + w) in
+    let g : take n (drop a l) ≡ take (w + w) (drop a l) = ap (λ (y : ℕ). take y (drop a l)) same in
+    let q : x ≡ triedPart w f (take (w + w) (drop a l)) = m ∙ ap (triedPart w f) g in
+    let long : length (take (w + w) (drop a l)) ≡ w + w = length-take-le (w + w) (drop a l) (omega (arith, length-drop a l)) in
+    put-back l a n x (ap length q ∙ length-tried w f (take (w + w) (drop a l)) long ∙ sym same) ∙ ap (splice l a) q

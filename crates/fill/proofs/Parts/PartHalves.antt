@@ -124,7 +124,7 @@ bytes-taken b d part l x y h r p q =
     ∙ ap₂ (λ (j k : ℕ). (x ++ y) ++ drop (j + k) l) m n
     ∙ ap (λ (z : List ℕ). z ++ drop (w + w) l) (ap₂ _++_ p q ∙ sym (half-bytes b d part h))
 
--- the same, from the places that code computes: m after the values are copied, m′ after the care is
+-- the same, from the offsets that code computes: m after the values are copied, m′ after the care is
 pub bytes-copied : (b : Bool) (d w r v : ℕ) (part l m m′ : List ℕ) → 3 ≤ d → length part ≡ width (suc d) + width (suc d)
     → w ≡ width d → r ≡ digit b * w → v ≡ w + w + r
     → m ≡ splice l 0 (take (r + w - r) (drop r part)) → m′ ≡ splice m w (take (v + w - v) (drop v part))

@@ -7,6 +7,7 @@ use native.Mathlib.Nat.{le-trans, le-min, min-le-left, min-le-right, add-le-add,
 use native.Mathlib.Omega.{arith}
 use lib.Dec.{T, leb, leb→le}
 use lib.ListN.{length, length-append}
+use Rattle.diagram.specs.Bound.{mostVariables, mostOutputs}
 use Rattle.diagram.specs.Lists.{all, upTo}
 use Rattle.diagram.specs.Tree.{Tree, halves}
 use Rattle.diagram.specs.Fill.{Row, level, trace}
@@ -53,7 +54,7 @@ rooms-hold : T (all (λ n. leb (mostLinks n 16) 4350) (upTo 11))
 unfolding mostLinks
 rooms-hold = tt
 
-pub links-room : (n : ℕ) (fs : List (Tree Row n)) → n ≤ 10 → length fs ≤ 16 → length (allLinks (trace true n fs)) ≤ 4350
+pub links-room : (n : ℕ) (fs : List (Tree Row n)) → n ≤ mostVariables → length fs ≤ mostOutputs → length (allLinks (trace true n fs)) ≤ 4350
 links-room n fs h k =
     le-trans (le-trans (links-bounded n fs) (mostLinks-mono n k))
     (leb→le (mostLinks n 16) 4350 (all-upTo-at (λ i. leb (mostLinks i 16) 4350) 11 rooms-hold n (suc-le-suc h)))

@@ -11,6 +11,7 @@ use borrow.Author.Tests.{leb-true, leb-false}
 use lib.Dec.{T, leb, le→leb}
 use lib.ListN.{length, length-map}
 use lib.Pow.{pow-mono}
+use Rattle.diagram.specs.Bound.{mostVariables, mostOutputs}
 use Rattle.diagram.specs.Tree.{Tree, halves}
 use Rattle.diagram.specs.Fill.{Row}
 use Rattle.diagram.proofs.Bools.{split, and-T}
@@ -26,9 +27,9 @@ use Rattle.fill.proofs.Descents.TreeDescent.{entriesOf, partsOf, below-
 
 -- at most so many rows
 abbrev pub Rows : {d : ℕ} → List (Tree Row d) → Type 0
-Rows {d} fs = length fs * 2 ^ d ≤ 16384
+Rows {d} fs = length fs * 2 ^ d ≤ mostOutputs * 2 ^ mostVariables
 
-entry-rows : {d : ℕ} (fs : List (Tree Row d)) → Rows fs → length (entriesOf fs) * 2 ^ d ≤ 16384
+entry-rows : {d : ℕ} (fs : List (Tree Row d)) → Rows fs → length (entriesOf fs) * 2 ^ d ≤ mostOutputs * 2 ^ mostVariables
 entry-rows {d} fs h = le-trans (mul-le-mul-right (2 ^ d) (entries-candidates true fs)) h
 
 -- the candidates of the next level have no more rows

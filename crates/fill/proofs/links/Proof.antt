@@ -19,7 +19,7 @@ returns : tie.Need-returns
 returns c =
     let a = c .before .before .before .before .before .args in
     let r = links-refused (a .state) (now (a .values)) (now (a .care)) (now (a .work)) ShortBuffer
-    (short-values (a .state) (now (a .values)) (now (a .care)) (now (a .work)) (c .before .if1 .taken)) refl in
+    (short-values (a .state) (now (a .values)) (now (a .care)) (now (a .work)) (omega (sizes, c .before .if1 .taken))) refl in
     (c .refused .ensures ∙ r .0, r .1)
 
 refused-requires-2 : tie.Need-refused-requires-2
@@ -29,7 +29,7 @@ returns-2 : tie.Need-returns-2
 returns-2 c =
     let a = c .before .before .before .before .before .before .args in
     let r = links-refused (a .state) (now (a .values)) (now (a .care)) (now (a .work)) ShortBuffer
-    (short-care (a .state) (now (a .values)) (now (a .care)) (now (a .work)) (c .before .if2 .taken)) refl in
+    (short-care (a .state) (now (a .values)) (now (a .care)) (now (a .work)) (omega (sizes, c .before .if2 .taken))) refl in
     (c .refused2 .ensures ∙ r .0, r .1)
 
 refused-requires-3 : tie.Need-refused-requires-3
@@ -54,7 +54,7 @@ returns-4 c =
     let w = t .before in
     let a = w .before .before .before .before .before .before .args in
     let r = links-refused (a .state) (now (a .values)) (now (a .care)) (now (a .work)) NoTable
-    (no-table (a .state) (now (a .values)) (now (a .care)) (now (a .work)) (w .before .before .if1 .left) (w .before .if2 .left) (omega (sizes, w .if3 .left))
+    (no-table (a .state) (now (a .values)) (now (a .care)) (now (a .work)) (omega (sizes, w .before .before .if1 .left)) (omega (sizes, w .before .if2 .left)) (omega (sizes, w .if3 .left))
     (sym (t .holds-table .ensures) ∙ not-true (t .holds-table .result) (c .before .if4 .taken))) refl in
     (c .refused4 .ensures ∙ r .0, r .1)
 
@@ -75,7 +75,7 @@ returns-5 c =
     let w = e .before .before in
     let a = w .before .before .before .before .before .before .args in
     let r = links-filled (a .state) (now (a .values)) (now (a .care)) (now (a .work))
-    (w .before .before .if1 .left) (w .before .if2 .left) (omega (sizes, w .if3 .left))
+    (omega (sizes, w .before .before .if1 .left)) (omega (sizes, w .before .if2 .left)) (omega (sizes, w .if3 .left))
     (held e) in
     (f .fill-held .ensures .0 ∙ r .0, f .fill-held .ensures .1 ∙ r .1)
 

@@ -7,7 +7,7 @@ use Rattle.diagram.specs.Fill.{entry}
 use Rattle.fill.specs.inner.Parts.{agreePart, mergePart}
 use Rattle.fill.specs.Work.{linkNumber}
 
--- the link's number where f is placed in entry e, plain or else inverted, and 0 where it isn't
+-- the link's number where f is merged into entry e, plain or else inverted, and 0 where it isn't
 unfoldable pub triedLink : ℕ → ℕ → List ℕ → List ℕ → ℕ
 triedLink w e f g =
     cond (agreePart false w f g) (linkNumber (entry e false)) (cond (agreePart true w f g) (linkNumber (entry e true)) 0)

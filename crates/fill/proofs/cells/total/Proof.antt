@@ -7,12 +7,13 @@ use Prim.Native.Nat.{_-_, _≤_, _+_}
 use native.Mathlib.Nat.{zero-add}
 use native.Mathlib.Omega.{arith}
 use lib.ListN.{drop}
+use Rattle.diagram.specs.Bound.{mostVariables}
 use Rattle.fill.proofs.Counting.CountedCells.{sum-more, sum-all}
 use Rattle.fill.proofs.cells.total.Statement.{statement}
 use Rattle.fill.proofs.cells.total.Tie as tie
 
 abbrev Inv-loop : tie.InvT-loop
-Inv-loop counts cells₀ p₀ cells p = (p ≤ 10) × (cells + sum _+_ 0 (drop p counts) ≡ sum _+_ 0 counts)
+Inv-loop counts cells₀ p₀ cells p = (p ≤ mostVariables) × (cells + sum _+_ 0 (drop p counts) ≡ sum _+_ 0 counts)
 
 abbrev μ-loop : tie.MeasureT-loop
 μ-loop counts cells₀ p₀ cells p = 10 - p

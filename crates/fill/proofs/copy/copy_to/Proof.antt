@@ -1,4 +1,4 @@
--- `fill::copy::copy_to` meets its contract. The loop's invariant: the first j bytes of x stand from place k on. The measure is how many
+-- `fill::copy::copy_to` meets its contract. The loop's invariant: the first j bytes of x stand from byte k on. The measure is how many
 -- are left. Assumes nothing.
 use borrow.Author.Needs.{needs}
 use mathlib.Core.Path.{_≡_, refl, sym, ap, _∙_}

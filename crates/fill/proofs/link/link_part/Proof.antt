@@ -3,7 +3,6 @@ use borrow.Author.Needs.{needs}
 use denote.Ref.{now}
 use mathlib.Core.Path.{_≡_, _∙_}
 use Prim.Native.Nat.{_+_, _-_}
-use native.Mathlib.Omega.{arith}
 use Rattle.reorder.specs.Sizes.{width}
 use Rattle.reorder.proofs.Shifts.{width-met}
 use Rattle.fill.specs.Work.{regionSize}

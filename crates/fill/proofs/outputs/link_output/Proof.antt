@@ -1,7 +1,7 @@
 -- `fill::outputs::link_output` meets its contract: what lies at the front of what is gathered is the output. Assumes nothing.
 use borrow.Author.Needs.{needs}
 use denote.Ref.{now}
-use mathlib.Core.Path.{_≡_, refl, ap, _∙_}
+use mathlib.Core.Path.{_≡_, ap, _∙_}
 use mathlib.Core.List.{List, [], _∷_}
 use Prim.Native.Nat.{ℕ, _+_, _*_, _-_, _≤_}
 use lib.ListN.{length, take}
@@ -12,7 +12,7 @@ use Rattle.reorder.proofs.Gathered.{length-gathered, part-front}
 use Rattle.fill.specs.Work.{linksAt}
 use Rattle.fill.specs.inner.Parts.{levelParts}
 use Rattle.fill.specs.inner.Level.{partsAt, written}
-use Rattle.fill.proofs.Buffers.Sizes.{links-at, sizes}
+use Rattle.fill.proofs.Buffers.Sizes.{sizes}
 use Rattle.fill.proofs.outputs.link_output.Statement.{statement}
 use Rattle.fill.proofs.outputs.link_output.Tie as tie
 

@@ -6,7 +6,7 @@ use mathlib.Core.Path.{_≡_, sym, ap, _∙_}
 use mathlib.Core.List.{List, _++_}
 use Prim.Native.Nat.{ℕ, _+_, _*_, _%_, _^_}
 use native.Mathlib.Omega.{arith}
-use lib.ListN.{drop, replicate, length-replicate}
+use lib.ListN.{drop, replicate}
 use Rattle.diagram.proofs.UpTo.{length-map-upTo}
 use Rattle.reorder.specs.Sizes.{width, partSize}
 use Rattle.reorder.specs.Gather.{gatheredPlane}
