@@ -26,7 +26,7 @@ use Rattle.table.proofs.Held.{few-inputs, few-outputs}
 use Rattle.fill.specs.declared.Levels.{Levels}
 use Rattle.fill.specs.Work.{workSize, clearedWork, traceWork}
 use Rattle.fill.specs.Calls.{heldTable, countAnswer, levelsOf, linksWork}
-use Rattle.fill.proofs.CallLaws.{levels-answer}
+use Rattle.fill.proofs.Calls.Answers.{levels-answer}
 use Rattle.network.specs.Lent.{lentDiagram, rootsSize}
 use Rattle.network.specs.inner.Levels.{storedLimit, made, levelAt, levelsMade, rootAt}
 use Rattle.network.specs.Build.{wanted, capacity, reachesBoard, networkState, clears, buildOutcome, buildRoots, buildCells}

@@ -22,7 +22,7 @@ use Rattle.table.specs.Calls.{over}
 use Rattle.table.proofs.Held.{few-outputs, stage-bad}
 use Rattle.table.proofs.Over.{length-over, getD-over}
 use Rattle.fill.specs.Calls.{heldTable}
-use Rattle.fill.proofs.DrawBytes.{gathered-cong}
+use Rattle.reorder.proofs.DrawnBytes.{gathered-cong}
 use Rattle.network.specs.Lent.{lentDiagram, numbersOf, rootsSize}
 use Rattle.network.specs.Evaluate.{goodCells, rowOutputs, evaluateAnswer}
 use Rattle.network.specs.Build.{heldNetwork, wanted, networkState}

@@ -20,7 +20,7 @@ use Rattle.diagram.proofs.Right.{from-refers}
 use Rattle.diagram.proofs.Function.{Good, node-level, node-edge, gives-constant}
 use Rattle.diagram.proofs.Evaluate.{from-top, gives-edge}
 use Rattle.diagram.proofs.Bits.{eqb-digit}
-use Rattle.fill.proofs.Shifts.{bit-masked}
+use Rattle.reorder.proofs.Shifts.{bit-masked}
 use Rattle.network.specs.Lent.{lentNode}
 use Rattle.network.specs.inner.Cells.{lentCells, Followable}
 use Rattle.network.proofs.Nodes.{lent-length}

@@ -31,10 +31,10 @@ use Rattle.block.specs.Bits.{sum}
 use Rattle.table.specs.Calls.{over}
 use Rattle.table.proofs.Held.{few-inputs, few-outputs}
 use Rattle.fill.specs.Work.{workSize, linksAt, allLinks, traceWork, zeroWork, clearedWork}
-use Rattle.fill.specs.Calls.{heldTable, drawnOutputs, entryCounts, tenOf}
-use Rattle.fill.proofs.LinksRoom.{links-room}
-use Rattle.fill.proofs.Tens.{ten-at}
-use Rattle.fill.proofs.Holding.{work-size}
+use Rattle.fill.specs.Calls.{heldTable, drawnOutputs, entryCounts, perLevel}
+use Rattle.fill.proofs.Room.LinksRoom.{links-room}
+use Rattle.fill.proofs.Counting.PerLevel.{per-level-at}
+use Rattle.fill.proofs.Buffers.Sizes.{work-size}
 use Rattle.network.specs.Lent.{numbersOf, rootsSize}
 use Rattle.network.specs.Build.{heldNetwork, wanted}
 use Rattle.network.specs.inner.Levels.{Made, made, levelAt, levelsMade, rootAt}
@@ -59,10 +59,10 @@ module _ (s : State) (values care : List ℕ) where
 
   -- what the filling answers of the levels
   abbrev pub heldEntries : List ℕ
-  heldEntries = tenOf (entryCounts (s .n) drawn)
+  heldEntries = perLevel (entryCounts (s .n) drawn)
 
   abbrev pub heldCounts : List ℕ
-  heldCounts = tenOf (counts true (s .n) (filled true (heldTable s values care) (orderOf s)))
+  heldCounts = perLevel (counts true (s .n) (filled true (heldTable s values care) (orderOf s)))
 
   drawn-length : length drawn ≡ s .m
   drawn-length = length-map-upTo (reordered (heldTable s values care) (orderOf s)) (s .m)
@@ -106,8 +106,8 @@ module _ (s : State) (values care : List ℕ) where
     sized : Sized (s .m) heldEntries heldCounts 0 lss
     sized =
         trace-sized (s .m) heldEntries heldCounts (s .n) 0 drawn
-        (λ j h. ap (λ i. getD heldEntries i 0) (zero-add j) ∙ ten-at (entryCounts (s .n) drawn) j (omega (arith, few-inputs s held)))
-        (λ j h. ap (λ i. getD heldCounts i 0) (zero-add j) ∙ ten-at (counts true (s .n) (filled true (heldTable s values care) (orderOf s)))
+        (λ j h. ap (λ i. getD heldEntries i 0) (zero-add j) ∙ per-level-at (entryCounts (s .n) drawn) j (omega (arith, few-inputs s held)))
+        (λ j h. ap (λ i. getD heldCounts i 0) (zero-add j) ∙ per-level-at (counts true (s .n) (filled true (heldTable s values care) (orderOf s)))
         j (omega (arith, few-inputs s held))
         ∙ ap (λ (l : List ℕ). getD l j 0) (sym counts-traced))
 

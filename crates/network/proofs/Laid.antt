@@ -12,7 +12,7 @@ use Rattle.table.specs.State.{stageOf, isNothing}
 use Rattle.block.specs.Bits.{sum}
 use Rattle.table.specs.Calls.{over}
 use Rattle.fill.specs.Work.{workSize, traceWork, zeroWork, clearedWork}
-use Rattle.fill.proofs.Holding.{work-size}
+use Rattle.fill.proofs.Buffers.Sizes.{work-size}
 use Rattle.network.specs.Lent.{numbersOf, rootsSize}
 use Rattle.network.specs.Build.{heldNetwork, wanted}
 use Rattle.network.specs.inner.Levels.{storedLimit, Made, made, levelAt, levelsMade, rootAt}

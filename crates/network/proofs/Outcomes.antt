@@ -24,7 +24,7 @@ use Rattle.table.specs.State.{orderOf, stageOf, isNothing}
 use Rattle.table.specs.Calls.{planeSize, over}
 use Rattle.table.proofs.Answer.{the-type}
 use Rattle.fill.specs.Work.{workSize, traceWork, zeroWork}
-use Rattle.fill.specs.Calls.{heldTable, enough, countAnswer, levelsOf, linksWork, entryCounts, drawnOutputs, tenOf}
+use Rattle.fill.specs.Calls.{heldTable, enough, countAnswer, levelsOf, linksWork, entryCounts, drawnOutputs, perLevel}
 use Rattle.network.specs.Lent.{numbersOf, rootsSize}
 use Rattle.network.specs.Build.{heldNetwork, wanted, capacity, longEnough, networkState, reachesBoard, clears, buildAnswer}
 use Rattle.network.specs.Build.{buildOutcome}
@@ -199,10 +199,10 @@ module _ (s : State) (values care work : List ℕ) where
     unfolding linksWork
     links-traced = rw e
 
-    pub levels-entries : levelsOf s values care work .entries ≡ tenOf (entryCounts (s .n) (drawnOutputs s values care))
+    pub levels-entries : levelsOf s values care work .entries ≡ perLevel (entryCounts (s .n) (drawnOutputs s values care))
     unfolding levelsOf
     levels-entries = rw e
 
-    pub levels-counts : levelsOf s values care work .counts ≡ tenOf (counts true (s .n) (filled true (heldTable s values care) (orderOf s)))
+    pub levels-counts : levelsOf s values care work .counts ≡ perLevel (counts true (s .n) (filled true (heldTable s values care) (orderOf s)))
     unfolding levelsOf
     levels-counts = rw e

@@ -20,7 +20,7 @@ use Rattle.diagram.proofs.Lists.{all-at}
 use Rattle.diagram.proofs.Numbers.{below-other}
 use Rattle.diagram.proofs.Bits.{one-shifted}
 use Rattle.block.specs.Bits.{packed}
-use Rattle.fill.proofs.Gathered.{gathered-lt}
+use Rattle.reorder.proofs.Gathered.{gathered-lt}
 use Rattle.network.specs.inner.Cells.{lentCells, outputAt}
 
 -- each of the first m roots is the diagram's own

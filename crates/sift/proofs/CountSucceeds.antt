@@ -20,7 +20,7 @@ use Rattle.table.specs.State.{goodHeading, stageOf, isNothing, reorderedState}
 use Rattle.table.proofs.Answer.{the-type}
 use Rattle.table.proofs.Held.{stage-good}
 use Rattle.fill.specs.Work.{zeroWork}
-use Rattle.fill.specs.Calls.{heldTable, enough, countAnswer, countWork, tenOf, levelsOf}
+use Rattle.fill.specs.Calls.{heldTable, enough, countAnswer, countWork, perLevel, levelsOf}
 
 -- the variants of an answer other than a success, by number
 abbrev pub refusals : List ℕ
@@ -54,10 +54,10 @@ module _ (s : State) (l values care work : List ℕ) (e : T (enough values care 
   counted-work t d = ap (λ (u : State). countWork u values care work) d ∙ count-zero
 
   levels-done : levelsOf (reorderedState s l) values care work .counts
-      ≡ tenOf (counts true (s .n) (filled true (heldTable s values care) (take (s .n) l)))
+      ≡ perLevel (counts true (s .n) (filled true (heldTable s values care) (take (s .n) l)))
   unfolding levelsOf
   levels-done = rw count-done
 
   pub counted-levels : (t : State) → t ≡ reorderedState s l
-      → levelsOf t values care work .counts ≡ tenOf (counts true (s .n) (filled true (heldTable s values care) (take (s .n) l)))
+      → levelsOf t values care work .counts ≡ perLevel (counts true (s .n) (filled true (heldTable s values care) (take (s .n) l)))
   counted-levels t d = ap (λ (u : State). levelsOf u values care work .counts) d ∙ levels-done

@@ -13,8 +13,9 @@ use Rattle.diagram.proofs.Bools.{and-T, and-l, and-r}
 use Rattle.table.specs.Calls.{planeSize}
 use Rattle.fill.specs.Work.{workSize, zeroWork, clearedWork}
 use Rattle.fill.specs.Calls.{enough}
-use Rattle.fill.proofs.Holding.{work-size, length-zero}
-use Rattle.fill.proofs.CallLaws.{cleared-zero as long-cleared}
+use Rattle.fill.proofs.Buffers.Sizes.{work-size}
+use Rattle.fill.proofs.Buffers.HeldParts.{length-zero}
+use Rattle.fill.proofs.Calls.Answers.{cleared-zero as long-cleared}
 
 zero-zero : (work : List ℕ) → zeroWork (zeroWork work) ≡ zeroWork work
 unfolding zeroWork

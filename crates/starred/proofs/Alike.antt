@@ -15,7 +15,7 @@ use Rattle.diagram.specs.Table.{Table, reordered, filled, filledBit, networkOf,
 use Rattle.diagram.specs.Sift.{fewest, chosen, sift}
 use Rattle.diagram.proofs.UpTo.{map-upTo-cong}
 use Rattle.diagram.proofs.Order.{behind-lt}
-use Rattle.fill.proofs.Masked.{mask, masked, fill-masked, draw-masked}
+use Rattle.fill.proofs.Calls.MaskedRows.{mask, masked, fill-masked, draw-masked}
 
 -- a mask forgets a row's value where the row is free
 pub record Alike (t u : Table) : Type 0 where

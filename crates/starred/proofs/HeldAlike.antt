@@ -12,7 +12,7 @@ use Rattle.table.specs.declared.State.{State}
 use Rattle.block.specs.Bits.{streamBit}
 use Rattle.table.specs.State.{orderOf}
 use Rattle.fill.specs.Calls.{heldTable}
-use Rattle.fill.proofs.Cares.{mask-alike}
+use Rattle.fill.proofs.Calls.FreeRows.{mask-alike}
 use Rattle.starred.specs.Shown.{Holds}
 use Rattle.starred.proofs.Alike.{Alike, cost-alike, network-alike, bit-alike, sift-alike}
 

@@ -8,7 +8,7 @@ use native.Mathlib.Omega.{arith}
 use denote.Ref.{now}
 use Rattle.table.specs.Calls.{over}
 use Rattle.fill.specs.Work.{clearedWork}
-use Rattle.fill.proofs.Holding.{work-size}
+use Rattle.fill.proofs.Buffers.Sizes.{work-size}
 use Rattle.network.specs.Lent.{rootsSize}
 use Rattle.network.specs.inner.Levels.{rootAt}
 use Rattle.network.proofs.Offsets.{links-at, first-at}

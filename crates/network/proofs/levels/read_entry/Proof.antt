@@ -5,7 +5,7 @@ use native.Mathlib.Omega.{arith}
 use mathlib.Core.Path.{_≡_}
 use Prim.Native.Nat.{_+_}
 use denote.Ref.{now}
-use Rattle.fill.proofs.Holding.{work-size}
+use Rattle.fill.proofs.Buffers.Sizes.{work-size}
 use Rattle.network.specs.inner.Levels.{made, entryMade}
 use Rattle.network.proofs.Entries.{entry-next, entry-alike, entry-unlike}
 use Rattle.network.proofs.levels.read_entry.Statement.{statement}

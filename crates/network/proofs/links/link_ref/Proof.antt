@@ -7,7 +7,7 @@ use denote.Ref.{now}
 use Rattle.diagram.specs.inner.Trace.{opposite}
 use Rattle.diagram.specs.Diagram.{inverts}
 use mathlib.Core.Bool.{true}
-use Rattle.fill.proofs.Holding.{work-size}
+use Rattle.fill.proofs.Buffers.Sizes.{work-size}
 use Rattle.network.proofs.LinkRefs.{ref-constant, ref-entry}
 use Rattle.network.proofs.links.link_ref.Statement.{statement}
 use Rattle.network.proofs.links.link_ref.Tie as tie
