@@ -28,7 +28,7 @@ refused-word = 114 ∷ 101 ∷ 102 ∷ 117 ∷ 115 ∷ 101 ∷ 100 ∷ []
 unfoldable pub refusedLine : Answer → List ℕ
 refusedLine a = line refused-word (number a)
 
--- the two planes that an accepted file loads
+-- the two planes that an accepted file loads into lent ones; into none, the bytes that a call uses
 abbrev pub valuesPlane : List ℕ → List ℕ → List ℕ
 valuesPlane file plane = loadedPlane file 1 plane
 

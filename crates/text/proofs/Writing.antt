@@ -23,20 +23,20 @@ sets-past : {A : Type 0} (l : List A) (i : ℕ) (xs : List A) → length l ≤ i
 sets-past l i [] h = refl
 sets-past l i (x ∷ xs) h = ap (λ (k : List _). sets k (suc i) xs) (set-out l i x h) ∙ sets-past l (suc i) xs (omega (arith, h))
 
--- a position in the buffer
+-- an offset in the buffer
 pub written-room : {l m : List ℕ} {i j : ℕ} {xs : List ℕ} → Written l m i j xs → j ≤ length m
 written-room {l} {m} {i} {j} {xs} w =
     let e : length m ≡ length l = ap length (w .content) ∙ length-sets l i xs in
-    omega (arith, e, w .position)
+    omega (arith, e, w .offset)
 
 pub written-nothing : {l : List ℕ} {i : ℕ} → i ≤ length l → Written l l i i []
-written-nothing h = record { content = refl; position = omega (arith, h) }
+written-nothing h = record { content = refl; offset = omega (arith, h) }
 
 pub written-byte : {l : List ℕ} {i b : ℕ} → i < length l → Written l (set l i b) i (i + 1) (b ∷ [])
-written-byte h = record { content = refl; position = omega (arith, h) }
+written-byte h = record { content = refl; offset = omega (arith, h) }
 
 pub written-past : {l : List ℕ} {i b : ℕ} → i ≤ length l → length l ≤ i → Written l l i i (b ∷ [])
-written-past {l} {i} {b} h k = record { content = sym (set-out l i b k); position = omega (arith, h, k) }
+written-past {l} {i} {b} h k = record { content = sym (set-out l i b k); offset = omega (arith, h, k) }
 
 -- the second text lies behind the first, or both past the end
 sets-clipped : (l xs ys : List ℕ) (i j : ℕ) → j ≡ min (i + length xs) (length l) → sets (sets l i xs) j ys ≡ sets l i (xs ++ ys)
@@ -51,8 +51,8 @@ pub written-then : {l m n : List ℕ} {i j k : ℕ} {xs ys : List ℕ} → Writt
 written-then {l} {m} {n} {i} {j} {k} {xs} {ys} v w =
     let o : length m ≡ length l = ap length (v .content) ∙ length-sets l i xs in
     record {
-      content = w .content ∙ ap (λ (r : List ℕ). sets r j ys) (v .content) ∙ sets-clipped l xs ys i j (v .position);
-      position = omega (arith, v .position, w .position, o, length-append xs ys);
+      content = w .content ∙ ap (λ (r : List ℕ). sets r j ys) (v .content) ∙ sets-clipped l xs ys i j (v .offset);
+      offset = omega (arith, v .offset, w .offset, o, length-append xs ys);
     }
 
 -- a text is known by its bytes

@@ -1,4 +1,4 @@
-// Bytes, words and decimal numbers, written at a position of a lent buffer; each answers the position behind.
+// Bytes, words and decimal numbers, written at an offset of a lent buffer; each answers the offset behind.
 ghost use mathlib.Core.List.{[], _∷_};
 ghost use Prim.Native.Nat.{_≤_};
 ghost use lib.ListN.{length};
