@@ -125,9 +125,11 @@ returns c =
     let w = p .before .before .before .before in
     let a = begun w .args in (
       p .link-part .ensures .0
-          ∙ ap (λ (y : List ℕ). length (levelParts (width (a .d)) (partsAt (a .d) (a .k) (a .to) (now (a .work))) (y ∷ []) .parts)) (half w),
+          ∙ ap (λ (y : List ℕ). length (levelParts (width (a .d)) (partsAt (a .d) (a .k) (a .to) (now (a .work))) (y ∷ []) .parts))
+          (half w),
       p .link-part .ensures .1
-          ∙ ap (λ (y : List ℕ). written (levelParts (width (a .d)) (partsAt (a .d) (a .k) (a .to) (now (a .work))) (y ∷ [])) (a .to) (a .l) (now (a .work)))
+          ∙ ap (λ (y : List ℕ). written (levelParts (width (a .d)) (partsAt (a .d) (a .k) (a .to) (now (a .work))) (y ∷ [])) (a .to) (a .l)
+          (now (a .work)))
           (half w),
     )
 

@@ -51,7 +51,12 @@ room : (c : tie.In-loop Inv-loop μ-loop) → c .before .loop .s < 1024
 room c = omega (arith, most-rows, rows-room (c .before .before .before .before .args .n) (c .before .before .before .if1 .left))
 
 cast-map : tie.Need-cast-map Inv-loop μ-loop
-cast-map c = omega (arith, most-rows, rows-room (c .before .before .before .before .before .args .n) (c .before .before .before .before .if1 .left))
+cast-map c = omega (
+  arith,
+  most-rows,
+  rows-room (c .before .before .before .before .before .args .n)
+      (c .before .before .before .before .if1 .left),
+)
 
 mul-map : tie.Need-mul-map Inv-loop μ-loop
 mul-map c = omega (arith, room (c .before))
