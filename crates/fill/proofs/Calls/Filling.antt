@@ -12,7 +12,7 @@ use Rattle.diagram.specs.Tree.{Tree}
 use Rattle.diagram.specs.Fill.{Row, Link, level, trace, fill}
 use Rattle.diagram.specs.Trace.{differing, tracedCounts}
 use Rattle.diagram.specs.Network.{counts, count}
-use Rattle.diagram.specs.Bound.{mostVariables, mostOutputs}
+use Rattle.diagram.specs.Bound.{mostVariables, mostOutputs, mostNodes}
 use Rattle.diagram.specs.Table.{reordered}
 use Rattle.diagram.proofs.Fill.{links-length, fill-length}
 use Rattle.diagram.proofs.Traced.{traced-counts}
@@ -183,7 +183,7 @@ module _ {n : ℕ} (fs : List (Tree Row n)) (small : n ≤ mostVariables) (few :
 -- the cells in all
 pub cells-filled : {n : ℕ} (fs : List (Tree Row n)) (cs : List ℕ) → n ≤ mostVariables → length fs ≤ mostOutputs
     → cs ≡ perLevel (counts true n (fill true n fs))
-    → (sum _+_ 0 cs ≡ count true n (fill true n fs)) × (sum _+_ 0 cs ≤ 65535)
+    → (sum _+_ 0 cs ≡ count true n (fill true n fs)) × (sum _+_ 0 cs ≤ mostNodes)
 cells-filled {n} fs cs small few e =
     let ts = fill true n fs in
     let a : sum _+_ 0 cs ≡ count true n ts =

@@ -7,7 +7,7 @@ use mathlib.Core.Logic.{inl}
 use Prim.Native.Nat.{ℕ, _+_, _*_, _≤_}
 use lib.Dec.{T}
 use lib.ListN.{length, take}
-use Rattle.diagram.specs.Bound.{mostOutputs}
+use Rattle.diagram.specs.Bound.{mostOutputs, mostNodes}
 use Rattle.diagram.specs.Fill.{level, trace}
 use Rattle.diagram.specs.Network.{counts}
 use Rattle.diagram.specs.Table.{reordered, filled, cost}
@@ -76,11 +76,11 @@ module _ (s : State) (values care : List ℕ) (held : T (not (isNothing (stageOf
             (linksAt + 2 * s .m) m many ends is entries m′ entries-are left
             cs counted
 
-        cells : (sum _+_ 0 cs ≡ cost (heldTable s values care) (orderOf s)) × (sum _+_ 0 cs ≤ 65535)
+        cells : (sum _+_ 0 cs ≡ cost (heldTable s values care) (orderOf s)) × (sum _+_ 0 cs ≤ mostNodes)
         unfolding filled cost
         cells = cells-filled (drawnOutputs s values care) cs (few-inputs s held) few counts-held
 
-        pub cells-room : sum _+_ 0 cs ≤ 65535
+        pub cells-room : sum _+_ 0 cs ≤ mostNodes
         cells-room = cells .1
 
         pub levels-held : (n : ℕ) → n ≡ sum _+_ 0 cs
