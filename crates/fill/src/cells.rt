@@ -5,7 +5,7 @@ ghost use mathlib.Core.Path.{_≡_};
 ghost use mathlib.Core.List.{sum};
 ghost use Prim.Native.Nat.{_+_, _*_, _≤_};
 ghost use lib.ListN.{length, take};
-ghost use Rattle.diagram.specs.Bound.{mostVariables, mostOutputs};
+ghost use Rattle.diagram.specs.Bound.{mostVariables, mostOutputs, mostNodes};
 ghost use Rattle.fill.specs.Work.{linksAt};
 ghost use Rattle.fill.specs.Calls.{perLevel};
 ghost use Rattle.fill.specs.inner.Counts.{pairDiffers, differingPairs, countsAt, linksEnd};
@@ -61,7 +61,7 @@ pub(crate) fn level_counts(
 
 // All of them.
 pub(crate) fn total(counts: [usize; VARIABLES]) -> usize
-    requires { ⌜ sum _+_ 0 counts ≤ 65535 ⌝ }
+    requires { ⌜ sum _+_ 0 counts ≤ mostNodes ⌝ }
     ensures { λ r. ⌜ r ≡ sum _+_ 0 counts ⌝ }
 {
     let mut cells = 0;

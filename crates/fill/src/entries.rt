@@ -1,4 +1,5 @@
-// The entries of a level, their parts one after the other in a region: a candidate is merged into the first that agrees, or goes behind them all.
+// The entries of a level, their parts one after the other in a region: a candidate is merged into the first that agrees, or goes behind
+// them all.
 use crate::copy::copy_to;
 use crate::part::agree;
 use crate::part::always;
@@ -18,7 +19,8 @@ pub(crate) struct Linked {
     pub link: usize,
 }
 
-// Tries the part g of entry e, plain and then inverted, and where one agrees merges the candidate f into it. Returns the link's number, or 0.
+// Tries the part g of entry e, plain and then inverted, and where one agrees merges the candidate f into it. Returns the link's number, or
+// 0.
 pub(crate) fn try_part(w: usize, f: &[u8], g: &mut [u8], e: usize) -> usize
     requires { ⌜ (length (now f) ≡ w + w) × (length (now g) ≡ w + w) × (2 * (e + 1) + 1 < 2 ^ 64) ⌝ }
     ensures link { λ r. ⌜ r ≡ triedLink w e (now (f .entry)) (now (g .entry)) ⌝ }
@@ -59,7 +61,8 @@ pub(crate) fn along(w: usize, f: &[u8], region: &mut [u8], k: usize) -> Linked
     ensures link { λ r. ⌜ r .link ≡ linkNumber (alongParts w 0 (now (f .entry)) (chunks (w + w) k (now (region .entry))) .link) ⌝ }
     ensures region { λ _. ⌜ now (region .exit)
         ≡ flat (alongParts w 0 (now (f .entry)) (chunks (w + w) k (now (region .entry))) .parts)
-        ++ drop (length (alongParts w 0 (now (f .entry)) (chunks (w + w) k (now (region .entry))) .parts) * (w + w)) (now (region .entry)) ⌝ }
+        ++ drop (length (alongParts w 0 (now (f .entry)) (chunks (w + w) k (now (region .entry))) .parts) * (w + w))
+        (now (region .entry)) ⌝ }
 {
     let mut e = 0;
     while e < k {
@@ -89,7 +92,8 @@ pub(crate) fn candidate(w: usize, f: &[u8], region: &mut [u8], k: usize) -> Link
     ensures link { λ r. ⌜ r .link ≡ linkNumber (candidatePart w (now (f .entry)) (chunks (w + w) k (now (region .entry))) .link) ⌝ }
     ensures region { λ _. ⌜ now (region .exit)
         ≡ flat (candidatePart w (now (f .entry)) (chunks (w + w) k (now (region .entry))) .parts)
-        ++ drop (length (candidatePart w (now (f .entry)) (chunks (w + w) k (now (region .entry))) .parts) * (w + w)) (now (region .entry)) ⌝ }
+        ++ drop (length (candidatePart w (now (f .entry)) (chunks (w + w) k (now (region .entry))) .parts) * (w + w))
+        (now (region .entry)) ⌝ }
 {
     if always(false, w, f) {
         return Linked {

@@ -30,7 +30,8 @@ pub(crate) fn link_half(
     requires { ⌜ (k + 1) * (width d + width d) ≤ regionSize ⌝ }
     requires { ⌜ l + 2 ≤ length (now work) ⌝ }
     ensures entries { λ r. ⌜ r
-        ≡ length (levelParts (width d) (partsAt d k to (now (work .entry))) (halfPart b d (partAt (suc d) a (now (work .entry))) ∷ []) .parts) ⌝ }
+        ≡ length (levelParts (width d) (partsAt d k to (now (work .entry)))
+        (halfPart b d (partAt (suc d) a (now (work .entry))) ∷ []) .parts) ⌝ }
     ensures work { λ _. ⌜ now (work .exit)
         ≡ written (levelParts (width d) (partsAt d k to (now (work .entry))) (halfPart b d (partAt (suc d) a (now (work .entry))) ∷ []))
         to l (now (work .entry)) ⌝ }
@@ -59,7 +60,8 @@ pub(crate) fn link_halves(
     requires { ⌜ (k + 2) * (width d + width d) ≤ regionSize ⌝ }
     requires { ⌜ l + 4 ≤ length (now work) ⌝ }
     ensures entries { λ r. ⌜ r
-        ≡ length (levelParts (width d) (partsAt d k to (now (work .entry))) (halfParts d (partAt (suc d) a (now (work .entry)) ∷ [])) .parts) ⌝ }
+        ≡ length (levelParts (width d) (partsAt d k to (now (work .entry)))
+        (halfParts d (partAt (suc d) a (now (work .entry)) ∷ [])) .parts) ⌝ }
     ensures work { λ _. ⌜ now (work .exit)
         ≡ written (levelParts (width d) (partsAt d k to (now (work .entry))) (halfParts d (partAt (suc d) a (now (work .entry)) ∷ [])))
         to l (now (work .entry)) ⌝ }

@@ -46,7 +46,8 @@ pub(crate) fn merge_at(i: bool, w: usize, j: usize, f: &[u8], g: &mut [u8])
     requires { ⌜ w + w ≤ length (now f) ⌝ }
     requires { ⌜ w + w ≤ length (now g) ⌝ }
     ensures { λ _. ⌜ now (g .exit)
-        ≡ set (set (now (g .entry)) j (mergeByte i (getD (now (f .entry)) j 0) (getD (now (f .entry)) (w + j) 0) (getD (now (g .entry)) j 0)))
+        ≡ set (set (now (g .entry)) j (mergeByte i (getD (now (f .entry)) j 0) (getD (now (f .entry)) (w + j) 0)
+        (getD (now (g .entry)) j 0)))
         (w + j) (bitOr (getD (now (f .entry)) (w + j) 0) (getD (now (g .entry)) (w + j) 0)) ⌝ }
 {
     let o = w + j;

@@ -70,12 +70,14 @@ module _ {A : Type 0} (p : A → Bool) where
       by-width d
       (λ k. let e : suc d ≡ 3 = omega arith in
       let g : ℕ → Bool = λ b. p (f (2 ^ suc d * s + b)) in
-      draw-small (suc d) f s k ∙ ap (λ n. packed (2 ^ n) g ∷ []) e ∙ one-byte 8 g ∙ ap (λ n. map byte (upTo n)) (sym (width-small (suc d) k)))
+      draw-small (suc d) f s k ∙ ap (λ n. packed (2 ^ n) g ∷ []) e ∙ one-byte 8 g ∙ ap (λ n. map byte (upTo n))
+      (sym (width-small (suc d) k)))
       (λ k. let w = width-rows d k in
       pack-node p (draw d f (2 * s)) (draw d f (2 * s + 1)) k
       ∙ ap₂ _++_
       (draw-large d f (2 * s) k
-      ∙ map-upTo-cong (width d) _ byte (λ j h. gathered-cong 8 _ (λ b. p (f (2 ^ suc d * s + (8 * j + b)))) (λ b h. row-low f d s (8 * j + b))))
+      ∙ map-upTo-cong (width d) _ byte (λ j h. gathered-cong 8 _ (λ b. p (f (2 ^ suc d * s + (8 * j + b))))
+      (λ b h. row-low f d s (8 * j + b))))
       (draw-large d f (2 * s + 1) k
       ∙ map-upTo-cong (width d) _ (λ j. byte (width d + j))
       (λ j h. gathered-cong 8 _ (λ b. p (f (2 ^ suc d * s + (8 * (width d + j) + b))))

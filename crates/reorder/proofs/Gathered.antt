@@ -71,7 +71,8 @@ module _ (n : ℕ) (order : List ℕ) (fits : n ≤ mostVariables) where
   unfolding rowMap
   map-filled k e =
       ap (filled (behind n (take n order)) mostRows) e
-      ∙ ap (λ (b : Bool). map (λ s. cond (b && ltb s (2 ^ n)) (behind n (take n order) s) 0) (upTo mostRows)) (sym (le-leb n mostVariables fits))
+      ∙ ap (λ (b : Bool). map (λ s. cond (b && ltb s (2 ^ n)) (behind n (take n order) s) 0) (upTo mostRows))
+      (sym (le-leb n mostVariables fits))
 
   map-at : (s : ℕ) → s < 2 ^ n → getD (rowMap n order) s 0 ≡ behind n (take n order) s
   map-at s h =
@@ -110,7 +111,8 @@ replicate-map k =
 
 pub map-none : (f : ℕ → ℕ) (k : ℕ) → replicate k 0 ≡ filled f k 0
 map-none f k =
-    replicate-map k ∙ map-upTo-cong k (λ s. 0) (λ q. cond (ltb q 0) (f q) 0) (λ i h. ap (λ (b : Bool). cond b (f i) 0) (sym (le-ltb i 0 zero-le)))
+    replicate-map k ∙ map-upTo-cong k (λ s. 0) (λ q. cond (ltb q 0) (f q) 0)
+    (λ i h. ap (λ (b : Bool). cond b (f i) 0) (sym (le-ltb i 0 zero-le)))
 
 pub map-past : (n : ℕ) (order : List ℕ) → mostVariables < n → replicate mostRows 0 ≡ rowMap n order
 unfolding rowMap

@@ -17,7 +17,7 @@ module _ (levels : List ℕ) (n s : ℕ) where
   abbrev pub firstBits : ℕ → ℕ
   firstBits v = rowNumber v (λ w. bit n (getD levels w 0) s)
 
-  pub bits-room : (v : ℕ) → v ≤ mostVariables → firstBits v < 1024
+  pub bits-room : (v : ℕ) → v ≤ mostVariables → firstBits v < 2 ^ mostVariables
   bits-room v h = lt-of-lt-of-le (number-lt v (λ w. bit n (getD levels w 0) s)) (pow-mono {j = mostVariables} h)
 
   pub bits-more : (v row b : ℕ) → row ≡ firstBits v → b ≡ digit (bit n (getD levels v 0) s) → 2 * row + b ≡ firstBits (v + 1)

@@ -110,13 +110,19 @@ module _ (work : List ℕ) (big : workSize ≤ length work) where
         let e : drop workSize (splice a linksAt bytes) ≡ drop workSize work =
         drop-behind a linksAt bytes (omega (sizes, length-parts)) workSize h
         ∙ drop-behind (zeroWork work) from (flat parts) (omega (sizes, in-zero)) workSize
-        (omega (sizes, region-end from region, fit-end s from linksAt (zeroWork work) (region-end from region) (omega (sizes, length-zero)) parts fit))
+        (omega (
+          sizes,
+          region-end from region,
+          fit-end s from linksAt (zeroWork work) (region-end from region)
+              (omega (sizes, length-zero)) parts fit,
+        ))
         ∙ zero-past in
         past-same (splice a linksAt bytes) work e
 
     -- A level of entries' parts of s′ bytes and their links is written: the parts to the other region, the links behind the bytes. And the
     -- region of the first parts is zero again.
-    module _ (s′ to n links : ℕ) (l : LevelParts) (fit′ : Fit s′ (l .parts)) (other : Region to) (apart : (from + regionSize ≤ to) ⊎ (to + regionSize ≤ from))
+    module _ (s′ to n links : ℕ) (l : LevelParts) (fit′ : Fit s′ (l .parts)) (other : Region to)
+        (apart : (from + regionSize ≤ to) ⊎ (to + regionSize ≤ from))
         (size : n ≡ regionSize) (ends : links ≡ linksAt + length bytes) where
       few : length (flat parts) ≤ regionSize
       few = fit-end s from linksAt (zeroWork work) (region-end from region) (omega (sizes, length-zero)) parts fit
@@ -139,7 +145,8 @@ module _ (work : List ℕ) (big : workSize ≤ length work) where
           (λ (h : from + regionSize ≤ to).
           splice-swap (splice z from x) from to o y (omega (sizes, size′)) (omega (sizes, length-parts, region-end to other))
           ∙ ap (λ (m : List ℕ). splice m to y)
-          (splice-over z from x (omega (sizes, in-zero)) o (omega (sizes, size′, few)) ∙ zero-again from n (omega (sizes, region-end from region))))
+          (splice-over z from x (omega (sizes, in-zero)) o (omega (sizes, size′, few)) ∙ zero-again from n
+          (omega (sizes, region-end from region))))
           (λ (h : to + regionSize ≤ from).
           let b : from ≤ length (splice z to y) =
           omega (sizes, length-splice z to y (omega (sizes, few′, length-zero, region-end to other)), in-zero) in

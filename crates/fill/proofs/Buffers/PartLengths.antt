@@ -11,7 +11,8 @@ use lib.Seq.{length-take-le, take-at, drop-at, take-take}
 use Rattle.diagram.specs.Fill.{Link}
 use Rattle.diagram.proofs.Bools.{split}
 use Rattle.reorder.specs.Sizes.{width}
-use Rattle.fill.specs.inner.Parts.{LevelParts, alwaysPart, agreePart, alongParts, candidatePart, levelParts, chunks, flat, halfPart, halfParts}
+use Rattle.fill.specs.inner.Parts.{LevelParts, alwaysPart, agreePart, alongParts, candidatePart, levelParts, chunks, flat, halfPart}
+use Rattle.fill.specs.inner.Parts.{halfParts}
 use Rattle.fill.specs.Work.{linkNumber, linkBytes}
 use Rattle.fill.proofs.Parts.PartMerge.{length-merge}
 use Rattle.fill.proofs.Parts.PartHalves.{length-half}

@@ -87,6 +87,7 @@ splice-swap l j k x y h m =
     let rest = y ++ drop (k + length y) l in
     ap₂ (λ (a b : List ℕ). a ++ (x ++ b)) (take-before l k y m j (omega arith)) (drop-before l k y m n h)
     ∙ sym
-    (ap₂ (λ (a b : List ℕ). a ++ (y ++ b)) (take-front l j x (omega arith) k h) (drop-behind l j x (omega arith) (k + length y) (omega arith))
+    (ap₂ (λ (a b : List ℕ). a ++ (y ++ b)) (take-front l j x (omega arith) k h)
+    (drop-behind l j x (omega arith) (k + length y) (omega arith))
     ∙ append-assoc (take j l ++ x) (take (k - n) (drop n l)) rest
     ∙ append-assoc (take j l) x (take (k - n) (drop n l) ++ rest))

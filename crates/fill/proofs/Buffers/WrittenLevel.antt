@@ -14,7 +14,8 @@ use Rattle.fill.specs.inner.Splice.{splice}
 use Rattle.fill.specs.inner.Level.{written}
 use Rattle.fill.proofs.Buffers.Splice.{length-splice, splice-none}
 use Rattle.fill.proofs.Buffers.Windows.{window-before, drop-here, drop-behind, splice-over, splice-append, splice-swap}
-use Rattle.fill.proofs.Buffers.PartLengths.{Long, length-flat, chunks-flat, chunks-take, level-grown, level-links, length-links, links-append, level-append}
+use Rattle.fill.proofs.Buffers.PartLengths.{Long, length-flat, chunks-flat, chunks-take, level-grown, level-links, length-links}
+use Rattle.fill.proofs.Buffers.PartLengths.{links-append, level-append}
 
 -- nothing written yet
 pub written-none : (to links : ℕ) (work : List ℕ) → written (record { parts = []; links = [] }) to links work ≡ work
@@ -61,7 +62,8 @@ module _ (s to links : ℕ) (work : List ℕ) (behind : to + regionSize ≤ link
 
   -- more parts and more links
   more : (gs gs′ : List (List ℕ)) (ls ls′ : List Link) → Fit s gs → Fit s gs′ → length gs ≤ length gs′
-      → written (record { parts = gs′; links = ls′ }) to (links + length (linkBytes ls)) (written (record { parts = gs; links = ls }) to links work)
+      → written (record { parts = gs′; links = ls′ }) to (links + length (linkBytes ls))
+      (written (record { parts = gs; links = ls }) to links work)
       ≡ written (record { parts = gs′; links = ls ++ ls′ }) to links work
   unfolding written
   more gs gs′ ls ls′ h h′ c =
@@ -91,7 +93,8 @@ module _ (w to links : ℕ) (work : List ℕ) (behind : to + regionSize ≤ link
   fit-second =
       let r = level-grown w gs fs lg lf in
       let q = level-grown w (levelParts w gs fs .parts) hs (r .0) lh in
-      let c : length (levelParts w (levelParts w gs fs .parts) hs .parts) ≤ length gs + (length fs + length hs) = omega (arith, r .2, q .2) in
+      let c : length (levelParts w (levelParts w gs fs .parts) hs .parts) ≤ length gs + (length fs + length hs) = omega
+      (arith, r .2, q .2) in
       (q .0, omega (arith, mul-le-mul-right (w + w) c))
 
   pub level-step : (k r n : ℕ) (m m′ : List ℕ) → k ≡ length (levelParts w gs fs .parts) → m ≡ written (levelParts w gs fs) to links work

@@ -38,7 +38,8 @@ module _ (s : State) (values care work : List ℕ) where
   short-work h =
       not-enough
       (rw (lt-leb workSize (length work) h)
-      (ap (λ (b : Bool). leb planeSize (length values) && b) (and-false (leb planeSize (length care))) ∙ and-false (leb planeSize (length values))))
+      (ap (λ (b : Bool). leb planeSize (length values) && b) (and-false (leb planeSize (length care))) ∙ and-false
+      (leb planeSize (length values))))
 
   module _ (v : planeSize ≤ length values) (c : planeSize ≤ length care) (w : workSize ≤ length work) where
     is-enough : enough values care work ≡ true
@@ -80,7 +81,8 @@ pub levels-answer : (s : State) (values care work : List ℕ) → levelsOf s val
 unfolding levelsOf
 levels-answer s values care work = refl
 
-pub count-refused : (s : State) (values care work m : List ℕ) → done (countAnswer s values care work) ≡ false → m ≡ linksWork s values care work
+pub count-refused : (s : State) (values care work m : List ℕ) → done (countAnswer s values care work) ≡ false
+    → m ≡ linksWork s values care work
     → m ≡ countWork s values care work
 unfolding linksWork countWork
 count-refused s values care work m d e = e ∙ (rw d)
@@ -99,7 +101,8 @@ done-held s values care work d =
     (λ h. absurd (false≢true (rw (e, h) at d))))
     (λ e. absurd (false≢true (rw e at d)))
 
-pub count-cleared : (s : State) (values care work m m′ : List ℕ) → done (countAnswer s values care work) ≡ true → m ≡ linksWork s values care work
+pub count-cleared : (s : State) (values care work m m′ : List ℕ) → done (countAnswer s values care work) ≡ true
+    → m ≡ linksWork s values care work
     → m′ ≡ clearedWork m → length m ≡ length work → m′ ≡ countWork s values care work
 unfolding linksWork countWork filledWork
 count-cleared s values care work m m′ d e q l =

@@ -12,7 +12,7 @@ use Rattle.diagram.specs.Tree.{Tree}
 use Rattle.diagram.specs.Fill.{Row, Link, level, trace, fill}
 use Rattle.diagram.specs.inner.Trace.{differing, tracedCounts}
 use Rattle.diagram.specs.Network.{counts, count}
-use Rattle.diagram.specs.Bound.{mostVariables, mostOutputs}
+use Rattle.diagram.specs.Bound.{mostVariables, mostOutputs, mostNodes}
 use Rattle.diagram.specs.Table.{reordered}
 use Rattle.diagram.proofs.Fill.{links-length, fill-length}
 use Rattle.diagram.proofs.Traced.{traced-counts}
@@ -64,7 +64,8 @@ long-encode [] = tt
 long-encode (t ∷ ts) = (encode-length t, long-encode ts)
 
 -- level 0, in a work buffer that was zero
-pub first-is : {n : ℕ} (fs : List (Tree Row n)) (work z : List ℕ) (xs : List (List ℕ)) (r : ℕ) (m : List ℕ) → xs ≡ map encode fs → z ≡ zeroWork work
+pub first-is : {n : ℕ} (fs : List (Tree Row n)) (work z : List ℕ) (xs : List (List ℕ)) (r : ℕ) (m : List ℕ) → xs ≡ map encode fs
+    → z ≡ zeroWork work
     → r ≡ length (levelParts (width n) [] xs .parts) → m ≡ written (levelParts (width n) [] xs) 0 linksAt z
     → (r ≡ length (entriesOf fs)) × (m ≡ holding 0 (partsOf fs) (linkBytes (linksOf true fs)) work)
 unfolding holding linksAt written
@@ -89,7 +90,8 @@ module _ {n : ℕ} (fs : List (Tree Row n)) (small : n ≤ mostVariables) (few :
 
   trace-links : linkBytes (allLinks (trace true n fs)) ≡ linkBytes (linksOf true fs) ++ linkBytes (allLinks (linksBelow n (partsOf fs)))
   trace-links =
-      ap (λ (y : List (List Link)). linkBytes (allLinks y)) (trace-bytes n fs) ∙ links-append (linksOf true fs) (allLinks (linksBelow n (partsOf fs)))
+      ap (λ (y : List (List Link)). linkBytes (allLinks y)) (trace-bytes n fs) ∙ links-append (linksOf true fs)
+      (allLinks (linksBelow n (partsOf fs)))
 
   pub trace-size : linksAt + length (linkBytes (allLinks (trace true n fs))) ≤ workSize
   trace-size = omega (sizes, length-links (allLinks (trace true n fs)), links-room n fs small few)
@@ -98,7 +100,13 @@ module _ {n : ℕ} (fs : List (Tree Row n)) (small : n ≤ mostVariables) (few :
   links-few : length (allLinks (linksBelow n (partsOf fs))) ≤ 4350
   links-few =
       let y = allLinks (linksBelow n (partsOf fs)) in
-      omega (sizes, ap (λ (l : List (List Link)). length (allLinks l)) (trace-bytes n fs), length-append (linksOf true fs) y, links-room n fs small few)
+      omega (
+        sizes,
+        ap (λ (l : List (List Link)). length (allLinks l)) (trace-bytes n fs),
+        length-append
+            (linksOf true fs) y,
+        links-room n fs small few,
+      )
 
   -- after level 0 there are so many entries, the next link goes to `links`, and m is the work buffer
   module _ (work : List ℕ) (big : workSize ≤ length work) (k links : ℕ) (m : List ℕ) (many : k ≡ length (entriesOf fs))
@@ -112,7 +120,8 @@ module _ {n : ℕ} (fs : List (Tree Row n)) (small : n ≤ mostVariables) (few :
         ∙ held-parts work big (width n + width n) 0 (partsOf fs) (linkBytes (linksOf true fs)) fit (inl refl)
 
     links-read : linksUpTo links m ≡ linkBytes (linksOf true fs)
-    links-read = ap (linksUpTo links) is ∙ held-bytes work big (width n + width n) 0 (partsOf fs) (linkBytes (linksOf true fs)) fit (inl refl) links ends′
+    links-read = ap (linksUpTo links) is ∙ held-bytes work big (width n + width n) 0 (partsOf fs) (linkBytes (linksOf true fs)) fit
+        (inl refl) links ends′
 
     past : zeroWork m ≡ zeroWork work
     past =
@@ -137,7 +146,8 @@ module _ {n : ℕ} (fs : List (Tree Row n)) (small : n ≤ mostVariables) (few :
     module _ (entries m′ : List ℕ) (entries-are : entries ≡ perLevel (countsBelow n (partsAt n k 0 m)))
         (left : m′ ≡ holding 0 [] (linksUpTo links m ++ linkBytes (allLinks (linksBelow n (partsAt n k 0 m)))) m) where
       pub entries-filled : entries ≡ perLevel (entryCounts n fs)
-      entries-filled = entries-are ∙ ap (λ (p : List (List ℕ)). perLevel (countsBelow n p)) parts-read ∙ ap perLevel (sym (counts-bytes n fs))
+      entries-filled = entries-are ∙ ap (λ (p : List (List ℕ)). perLevel (countsBelow n p)) parts-read ∙ ap perLevel
+          (sym (counts-bytes n fs))
 
       left-is : m′ ≡ holding 0 [] (linkBytes (linksOf true fs) ++ linkBytes (allLinks (linksBelow n (partsOf fs)))) work
       left-is =
@@ -158,7 +168,8 @@ module _ {n : ℕ} (fs : List (Tree Row n)) (small : n ≤ mostVariables) (few :
           subst (λ (ks : List ℕ). linksEnd links ks ≤ workSize) (sym levels-taken)
           (omega (sizes, end-below n links (partsOf fs), links-few))
 
-      pub counts-filled : (cs : List ℕ) → cs ≡ perLevel (countsAt m′ links (take n entries)) → cs ≡ perLevel (counts true n (fill true n fs))
+      pub counts-filled : (cs : List ℕ) → cs ≡ perLevel (countsAt m′ links (take n entries))
+          → cs ≡ perLevel (counts true n (fill true n fs))
       counts-filled cs e =
           let (rest, behind) =
           held-behind work big 2 0 [] (linkBytes (linksOf true fs)) (tt, omega sizes) (inl refl)
@@ -170,8 +181,9 @@ module _ {n : ℕ} (fs : List (Tree Row n)) (small : n ≤ mostVariables) (few :
           ∙ sym (counts-traced n fs))
 
 -- the cells in all
-pub cells-filled : {n : ℕ} (fs : List (Tree Row n)) (cs : List ℕ) → n ≤ mostVariables → length fs ≤ mostOutputs → cs ≡ perLevel (counts true n (fill true n fs))
-    → (sum _+_ 0 cs ≡ count true n (fill true n fs)) × (sum _+_ 0 cs ≤ 65535)
+pub cells-filled : {n : ℕ} (fs : List (Tree Row n)) (cs : List ℕ) → n ≤ mostVariables → length fs ≤ mostOutputs
+    → cs ≡ perLevel (counts true n (fill true n fs))
+    → (sum _+_ 0 cs ≡ count true n (fill true n fs)) × (sum _+_ 0 cs ≤ mostNodes)
 cells-filled {n} fs cs small few e =
     let ts = fill true n fs in
     let a : sum _+_ 0 cs ≡ count true n ts =

@@ -1,5 +1,5 @@
--- Two lents that agree on the care bits of the stream, and on its value bits where they are cared, are counted alike: the value bits of free
--- rows and all bits past the stream never matter.
+-- Two lents that agree on the care bits of the stream, and on its value bits where they are cared, are counted alike: the value bits of
+-- free rows and all bits past the stream never matter.
 -- Assumes nothing.
 use mathlib.Core.Path.{_≡_, refl, sym, ap, ap₂, _∙_}
 use mathlib.Core.Bool.{Bool, true, false, not, cond, _&&_}
@@ -35,7 +35,8 @@ and-alike : (c v v′ : Bool) → (T c → v ≡ v′) → (c && v) ≡ (c && v�
 and-alike true v v′ h = h tt
 and-alike false v v′ h = refl
 
-pub mask-alike : (c c′ v v′ : Bool) → c ≡ c′ → (T c → v ≡ v′) → mask (record { value = v; care = c }) ≡ mask (record { value = v′; care = c′ })
+pub mask-alike : (c c′ v v′ : Bool) → c ≡ c′ → (T c → v ≡ v′)
+    → mask (record { value = v; care = c }) ≡ mask (record { value = v′; care = c′ })
 mask-alike c c′ v v′ e h =
     ap₂ (λ (b d : Bool). record { value = b; care = d }) (and-alike c v v′ h ∙ ap (λ (b : Bool). b && v′) e) e
 

@@ -7,7 +7,7 @@ use mathlib.Core.Logic.{inl}
 use Prim.Native.Nat.{ℕ, _+_, _*_, _≤_}
 use lib.Dec.{T}
 use lib.ListN.{length, take}
-use Rattle.diagram.specs.Bound.{mostOutputs}
+use Rattle.diagram.specs.Bound.{mostOutputs, mostNodes}
 use Rattle.diagram.specs.Fill.{level, trace}
 use Rattle.diagram.specs.Network.{counts}
 use Rattle.diagram.specs.Table.{reordered, filled, cost}
@@ -48,7 +48,8 @@ module _ (s : State) (values care : List ℕ) (held : T (not (isNothing (stageOf
     ends = omega (sizes, outputs)
 
     pub asks : (m ≡ holding 0 (partsAt (s .n) k 0 m) (linksUpTo (linksAt + 2 * s .m) m) m)
-        × (T (roomy (s .n) (partsAt (s .n) k 0 m)) × (linksAt + 2 * s .m + 2 * length (allLinks (linksBelow (s .n) (partsAt (s .n) k 0 m))) ≤ workSize))
+        × (T (roomy (s .n) (partsAt (s .n) k 0 m)) × (linksAt + 2 * s .m + 2 * length (allLinks (linksBelow (s .n) (partsAt (s .n) k 0 m)))
+        ≤ workSize))
     unfolding firstWork
     asks = descend-asks (drawnOutputs s values care) (few-inputs s held) few work big k (linksAt + 2 * s .m) m many ends is
 
@@ -58,28 +59,32 @@ module _ (s : State) (values care : List ℕ) (held : T (not (isNothing (stageOf
       pub left-held : m′ ≡ filledWork s values care work
       unfolding firstWork filledWork
       left-held =
-          left-filled (drawnOutputs s values care) (few-inputs s held) few work big k (linksAt + 2 * s .m) m many ends is entries m′ entries-are left
+          left-filled (drawnOutputs s values care) (few-inputs s held) few work big k
+          (linksAt + 2 * s .m) m many ends is entries m′ entries-are left
 
       pub counts-room : linksEnd (linksAt + 2 * s .m) (take (s .n) entries) ≤ workSize
       unfolding firstWork
       counts-room =
-          counts-ask (drawnOutputs s values care) (few-inputs s held) few work big k (linksAt + 2 * s .m) m many ends is entries m′ entries-are left
+          counts-ask (drawnOutputs s values care) (few-inputs s held) few work big k
+          (linksAt + 2 * s .m) m many ends is entries m′ entries-are left
 
       module _ (cs : List ℕ) (counted : cs ≡ perLevel (countsAt m′ (linksAt + 2 * s .m) (take (s .n) entries))) where
         counts-held : cs ≡ perLevel (counts true (s .n) (filled true (heldTable s values care) (orderOf s)))
         unfolding firstWork filled
         counts-held =
-            counts-filled (drawnOutputs s values care) (few-inputs s held) few work big k (linksAt + 2 * s .m) m many ends is entries m′ entries-are left
+            counts-filled (drawnOutputs s values care) (few-inputs s held) few work big k
+            (linksAt + 2 * s .m) m many ends is entries m′ entries-are left
             cs counted
 
-        cells : (sum _+_ 0 cs ≡ cost (heldTable s values care) (orderOf s)) × (sum _+_ 0 cs ≤ 65535)
+        cells : (sum _+_ 0 cs ≡ cost (heldTable s values care) (orderOf s)) × (sum _+_ 0 cs ≤ mostNodes)
         unfolding filled cost
         cells = cells-filled (drawnOutputs s values care) cs (few-inputs s held) few counts-held
 
-        pub cells-room : sum _+_ 0 cs ≤ 65535
+        pub cells-room : sum _+_ 0 cs ≤ mostNodes
         cells-room = cells .1
 
-        pub levels-held : (n : ℕ) → n ≡ sum _+_ 0 cs → record { answer = Done n; entries = entries; counts = cs } ≡ filledLevels s values care
+        pub levels-held : (n : ℕ) → n ≡ sum _+_ 0 cs
+            → record { answer = Done n; entries = entries; counts = cs } ≡ filledLevels s values care
         unfolding filledLevels firstWork
         levels-held n e =
             let a : n ≡ cost (heldTable s values care) (orderOf s) = e ∙ cells .0 in

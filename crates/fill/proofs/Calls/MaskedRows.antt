@@ -7,7 +7,8 @@ use Prim.Native.Nat.{ℕ, zero, suc, _+_, _*_}
 use lib.ListN.{length, length-map}
 use Rattle.diagram.specs.Lists.{flip}
 use Rattle.diagram.specs.Tree.{Tree, leaf, node, draw, half, halves, pairs}
-use Rattle.diagram.specs.Fill.{Row, always, agree, merge, Link, Linked, Level, after, then, along, candidate, level, follow, settled, fill, trace}
+use Rattle.diagram.specs.Fill.{Row, always, agree, merge, Link, Linked, Level, after, then, along, candidate, level, follow, settled, fill}
+use Rattle.diagram.specs.Fill.{trace}
 use Rattle.diagram.proofs.Bools.{split}
 use Rattle.diagram.proofs.Fill.{fill-zero, fill-suc, trace-zero, trace-suc}
 use Rattle.fill.specs.Calls.{entryCounts}

@@ -69,7 +69,8 @@ module _ (work : List ℕ) (start n : ℕ) (entries : List ℕ) (fits : n ≤ le
     pub counting-room : at + 4 * getD entries p 0 ≤ linksEnd start (take n entries)
     counting-room = omega (arith, ends-here, end-behind (at + 4 * getD entries p 0) (drop (p + 1) (take n entries)))
 
-    pub counting-on : (x : ℕ) (counts′ : List ℕ) → n ≤ mostVariables → x ≡ differingPairs work at (getD entries p 0) → counts′ ≡ set counts p x
+    pub counting-on : (x : ℕ) (counts′ : List ℕ) → n ≤ mostVariables → x ≡ differingPairs work at (getD entries p 0)
+        → counts′ ≡ set counts p x
         → Counting work start n entries (p + 1) (at + 4 * getD entries p 0) counts′
     counting-on x counts′ small e q =
         let k = getD entries p 0 in

@@ -48,7 +48,8 @@ same-number (const v) (const w) t = ap digit (beq→eq v w t)
 same-number (const v) (entry l j) t = absurd t
 same-number (entry k i) (const w) t = absurd t
 same-number (entry k i) (entry l j) t =
-    ap₂ (λ (n : ℕ) (b : Bool). 2 * suc n + digit b) (eqb→eq k l (and-l (eqb k l) (Bool·beq i j) t)) (beq→eq i j (and-r (eqb k l) (Bool·beq i j) t))
+    ap₂ (λ (n : ℕ) (b : Bool). 2 * suc n + digit b) (eqb→eq k l (and-l (eqb k l) (Bool·beq i j) t))
+    (beq→eq i j (and-r (eqb k l) (Bool·beq i j) t))
 
 -- two numbers below 65,536 by their bytes
 bytes-equal : (x y : ℕ) → x < 65536 → y < 65536 → x % 256 ≡ y % 256 → x / 256 % 256 ≡ y / 256 % 256 → x ≡ y
@@ -86,7 +87,8 @@ along-under w e f (g ∷ gs) =
     split (agreePart false w f g) (λ p. rw p (omega arith))
     (λ p. split (agreePart true w f g) (λ q. rw (p, q) (omega arith)) (λ q. rw (p, q) (omega (arith, along-under w (suc e) f gs))))
 
-candidate-under : (w : ℕ) (f : List ℕ) (gs : List (List ℕ)) → linkNumber (candidatePart w f gs .link) < 2 * length (candidatePart w f gs .parts) + 2
+candidate-under : (w : ℕ) (f : List ℕ) (gs : List (List ℕ))
+    → linkNumber (candidatePart w f gs .link) < 2 * length (candidatePart w f gs .parts) + 2
 unfolding candidatePart
 candidate-under w f gs =
     split (alwaysPart false w f) (λ p. rw p (omega arith))
@@ -142,7 +144,8 @@ pairs-links work at (suc k) (x ∷ y ∷ ls) rest n u e =
     ∙ digit-not (sameLink x y) (differing ls)
 
 -- no level
-counts-none : (work : List ℕ) (at : ℕ) (parts : List (List ℕ)) → countsAt work at (countsBelow zero parts) ≡ map differing (linksBelow zero parts)
+counts-none : (work : List ℕ) (at : ℕ) (parts : List (List ℕ))
+    → countsAt work at (countsBelow zero parts) ≡ map differing (linksBelow zero parts)
 unfolding countsBelow linksBelow
 counts-none work at parts = refl
 

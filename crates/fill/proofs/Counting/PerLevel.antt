@@ -26,12 +26,14 @@ per-level-filled xs ys =
     (λ e. rw e (List·getD-eq-default xs 0 (ltb-false w (length xs) e))))
 
 -- one number more
-pub per-level-more : (xs : List ℕ) (x j : ℕ) (l : List ℕ) → j ≡ length xs → length xs < mostVariables → l ≡ perLevel xs → set l j x ≡ perLevel (xs ++ (x ∷ []))
+pub per-level-more : (xs : List ℕ) (x j : ℕ) (l : List ℕ) → j ≡ length xs → length xs < mostVariables → l ≡ perLevel xs
+    → set l j x ≡ perLevel (xs ++ (x ∷ []))
 per-level-more xs x j l e h q =
     let ys = xs ++ (x ∷ []) in
     let n : length xs + 1 ≡ length ys = sym (length-append xs (x ∷ [])) in
     ap (λ (k : ℕ). set l k x) e
-    ∙ filled-more (λ w. getD ys w 0) mostVariables (length xs) h l x (q ∙ per-level-filled xs (x ∷ [])) (sym (getD-at xs x [] 0 (length xs) refl))
+    ∙ filled-more (λ w. getD ys w 0) mostVariables (length xs) h l x (q ∙ per-level-filled xs (x ∷ []))
+    (sym (getD-at xs x [] 0 (length xs) refl))
     ∙ ap (filled (λ w. getD ys w 0) mostVariables) n
     ∙ ap (λ (zs : List ℕ). filled (λ w. getD zs w 0) mostVariables (length ys)) (sym (append-nil ys))
     ∙ sym (per-level-filled ys [])

@@ -60,7 +60,8 @@ pub links-two : (d : ℕ) (parts : List (List ℕ)) → length (levelBelow d par
 links-two d parts = level-links (width d) [] (halfParts d parts) ∙ length-halves d parts
 
 pub links-length : (d : ℕ) (parts : List (List ℕ))
-    → length (allLinks (linksBelow (suc d) parts)) ≡ (length parts + length parts) + length (allLinks (linksBelow d (levelBelow d parts .parts)))
+    → length (allLinks (linksBelow (suc d) parts))
+    ≡ (length parts + length parts) + length (allLinks (linksBelow d (levelBelow d parts .parts)))
 links-length d parts =
     let l = levelBelow d parts in
     ap length (joined-suc d parts) ∙ length-append (l .links) (allLinks (linksBelow d (l .parts)))
@@ -69,7 +70,8 @@ links-length d parts =
 pub bytes-suc : (d : ℕ) (parts : List (List ℕ))
     → linkBytes (allLinks (linksBelow (suc d) parts))
     ≡ linkBytes (levelBelow d parts .links) ++ linkBytes (allLinks (linksBelow d (levelBelow d parts .parts)))
-bytes-suc d parts = ap linkBytes (joined-suc d parts) ∙ links-append (levelBelow d parts .links) (allLinks (linksBelow d (levelBelow d parts .parts)))
+bytes-suc d parts = ap linkBytes (joined-suc d parts) ∙ links-append (levelBelow d parts .links)
+    (allLinks (linksBelow d (levelBelow d parts .parts)))
 
 -- the next level's entries, of which there are at most two each
 pub level-fits : (d : ℕ) (parts : List (List ℕ)) → Long (width (suc d) + width (suc d)) parts → Room d parts

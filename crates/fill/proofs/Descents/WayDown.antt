@@ -19,12 +19,14 @@ use Rattle.fill.proofs.Buffers.Sizes.{sizes}
 use Rattle.fill.proofs.Buffers.Chunks.{length-chunks}
 use Rattle.fill.proofs.Buffers.PartLengths.{Long, long-chunks, length-links}
 use Rattle.fill.proofs.Buffers.WrittenLevel.{Fit}
-use Rattle.fill.proofs.Descents.LevelsBelow.{counts-suc, bytes-suc, links-two, links-length, Room, room-suc, none-left, room-first, level-fits}
+use Rattle.fill.proofs.Descents.LevelsBelow.{counts-suc, bytes-suc, links-two, links-length, Room, room-suc, none-left, room-first}
+use Rattle.fill.proofs.Descents.LevelsBelow.{level-fits}
 use Rattle.fill.proofs.Buffers.HeldParts.{Region, region-end, region-other, regions-apart, held-parts, held-next, held-none}
 use Rattle.fill.proofs.Counting.PerLevel.{per-level-more}
 
--- From n variables, the entries `all` and the bytes `before`, in a work buffer that was `work`: where d variables are left, k entries' parts
--- lie in the region at `from`, the next link goes to `links`, m is the work buffer, and `entries` has how many entries each level had.
+-- From n variables, the entries `all` and the bytes `before`, in a work buffer that was `work`: where d variables are left, k entries'
+-- parts lie in the region at `from`, the next link goes to `links`, m is the work buffer, and `entries` has how many entries each level
+-- had.
 pub record Going (n : ℕ) (all : List (List ℕ)) (before work : List ℕ) (d from links k : ℕ) (m entries : List ℕ) : Type 0 where
   pub parts : List (List ℕ)
   pub bytes : List ℕ
@@ -49,7 +51,8 @@ module _ (n : ℕ) (all : List (List ℕ)) (before work : List ℕ) (big : workS
   going-first count links p q h b r e =
       let c : length all ≡ count = ap length p ∙ length-chunks (width n + width n) count work in
       let i : count * (width n + width n) ≤ regionSize = subst (λ (y : ℕ). y * (width n + width n) ≤ regionSize) c (room-first n all r) in
-      let j : length before ≡ links - linksAt = ap length q ∙ length-take-le (links - linksAt) (drop linksAt work) (omega (sizes, length-drop linksAt work)) in
+      let j : length before ≡ links - linksAt = ap length q ∙ length-take-le (links - linksAt) (drop linksAt work)
+      (omega (sizes, length-drop linksAt work)) in
       record {
         parts = all;
         bytes = before;
@@ -139,7 +142,8 @@ module _ (n : ℕ) (all : List (List ℕ)) (before work : List ℕ) (big : workS
               (width d + width d) (regionSize - from) regionSize links l
               fits (region-other from (g .region)) (regions-apart from (g .region)) refl (g .ends) m′
               (q
-              ∙ ap₂ (λ (y : List (List ℕ)) (z : List ℕ). splice (written (levelBelow d y) (regionSize - from) links z) from (replicate regionSize 0))
+              ∙ ap₂ (λ (y : List (List ℕ)) (z : List ℕ). splice (written (levelBelow d y) (regionSize - from) links z) from
+              (replicate regionSize 0))
               going-parts (g .buffer));
           ends = omega (sizes, g .ends);
           room = going-room .below;

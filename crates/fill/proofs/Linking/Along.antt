@@ -63,7 +63,11 @@ shown-const : (s : ℕ) (l : List ℕ) (p : LinkedPart) (k : ℕ) (v : Bool) →
 shown-const s l p k v q =
     subst (λ (y : LinkedPart). Shown s l y k (digit v) l) (sym q) (
       sym (length-chunks s k l),
-      (refl, sym (ap₂ (λ (y : List ℕ) (n : ℕ). y ++ drop (n * s) l) (flat-chunks s k l) (length-chunks s k l) ∙ take-append-drop (k * s) l)),
+      (
+        refl,
+        sym (ap₂ (λ (y : List ℕ) (n : ℕ). y ++ drop (n * s) l) (flat-chunks s k l) (length-chunks s k l) ∙ take-append-drop
+            (k * s) l),
+      ),
     )
 
 module _ (w : ℕ) (f l : List ℕ) (k : ℕ) where
@@ -150,7 +154,8 @@ module _ (w : ℕ) (f l : List ℕ) (k : ℕ) where
   -- f is constant
   pub shown-always : (v : Bool) → (v ≡ true → alwaysPart false w f ≡ false) → alwaysPart v w f ≡ true
       → Shown (w + w) l (candidatePart w f (chunks (w + w) k l)) k (digit v) l
-  shown-always v h t = shown-const (w + w) l (candidatePart w f (chunks (w + w) k l)) k v (candidate-constant v w f (chunks (w + w) k l) h t)
+  shown-always v h t = shown-const (w + w) l (candidatePart w f (chunks (w + w) k l)) k v
+      (candidate-constant v w f (chunks (w + w) k l) h t)
 
   -- it isn't
   pub shown-along : (n m : ℕ) (x : List ℕ) → alwaysPart false w f ≡ false → alwaysPart true w f ≡ false

@@ -76,7 +76,8 @@ module _ (d k to : ℕ) (f work : List ℕ) (long : length f ≡ width d + width
       let m : length (p .parts) * s ≤ regionSize = omega (arith, mul-le-mul-right s c) in (
         h .0,
         e
-            ∙ ap₂ (λ (y : List ℕ) (n : ℕ). splice (take to work ++ (y ++ drop regionSize (drop to work))) l (n % 256 ∷ n / 256 % 256 ∷ [])) (h .1 .1) (h .1 .0)
+            ∙ ap₂ (λ (y : List ℕ) (n : ℕ). splice (take to work ++ (y ++ drop regionSize (drop to work))) l (n % 256 ∷ n / 256 % 256 ∷ []))
+            (h .1 .1) (h .1 .0)
             ∙ ap (λ (y : List ℕ). splice y l (linkNumber (p .link) % 256 ∷ linkNumber (p .link) / 256 % 256 ∷ []))
             (region-back work (flat (p .parts)) to regionSize (length (p .parts) * s) (length-flat s (p .parts) (grown .0)) m in-work),
       )
@@ -89,8 +90,10 @@ module _ (d k to : ℕ) (f work : List ℕ) (long : length f ≡ width d + width
       × (after ≡ written (levelParts (width d) (partsAt d k to work) (f ∷ [])) to l work)
   linked-part w n l entries link region after p q h e =
       let s = width d + width d in
-      let a : Shown s (take regionSize (drop to work)) (candidatePart (width d) f (chunks s k (take regionSize (drop to work)))) entries link region =
-      subst₂ (λ (w n : ℕ). Shown (w + w) (take n (drop to work)) (candidatePart w f (chunks (w + w) k (take n (drop to work)))) entries link region)
+      let a : Shown s (take regionSize (drop to work)) (candidatePart (width d) f
+      (chunks s k (take regionSize (drop to work)))) entries link region =
+      subst₂ (λ (w n : ℕ). Shown (w + w) (take n (drop to work)) (candidatePart w f
+      (chunks (w + w) k (take n (drop to work)))) entries link region)
       p q h in
       linked-core l entries link region after
       (subst (λ (y : List (List ℕ)). Shown s (take regionSize (drop to work)) (candidatePart (width d) f y) entries link region)

@@ -36,7 +36,8 @@ module _ (d a to k l : ℕ) (work : List ℕ)
   pub second-room : (n : ℕ) → n ≡ length (levelParts (width d) (partsAt d k to work) (halfPart false d (partAt (suc d) a work) ∷ []) .parts)
       → (n + 1) * (width d + width d) ≤ regionSize
   second-room n e =
-      let r = level-grown (width d) (partsAt d k to work) (halfPart false d (partAt (suc d) a work) ∷ []) among-long (half-long false, tt) in
+      let r = level-grown (width d) (partsAt d k to work) (halfPart false d (partAt (suc d) a work) ∷ []) among-long
+      (half-long false, tt) in
       let c : n + 1 ≤ k + 2 = omega (arith, r .2, length-chunks (width d + width d) k (drop to work)) in
       omega (arith, mul-le-mul-right (width d + width d) c)
 
@@ -54,7 +55,8 @@ module _ (d a to k l : ℕ) (work : List ℕ)
       let f = halfPart false d (partAt (suc d) a work) in
       let g = halfPart true d (partAt (suc d) a work) in
       let in-list : l ≤ length work = omega arith in
-      let fit = fit-first (width d) to l work behind in-list gs (f ∷ []) (g ∷ []) among-long (half-long false, tt) (half-long true, tt) counted in
+      let fit = fit-first (width d) to l work behind in-list gs (f ∷ []) (g ∷ []) among-long (half-long false, tt)
+      (half-long true, tt) counted in
       let kept : partAt (suc d) a m ≡ partAt (suc d) a work =
       ap (partAt (suc d) a) q
       ∙ outside s to l work behind in-list (levelParts (width d) gs (f ∷ [])) fit a (width (suc d) + width (suc d)) before apart in
@@ -100,7 +102,8 @@ module _ (d from count to links : ℕ) (work : List ℕ) (apart : (from + region
       omega (arith, mul-le-mul-right (width d + width d) h, rooms .1)
 
   outside-region : (a + (width (suc d) + width (suc d)) ≤ to) ⊎ (to + regionSize ≤ a)
-  outside-region = ⊎-elim (λ (p : from + regionSize ≤ to). inl (omega (arith, in-region))) (λ (q : to + regionSize ≤ from). inr (omega arith)) apart
+  outside-region = ⊎-elim (λ (p : from + regionSize ≤ to). inl (omega (arith, in-region)))
+      (λ (q : to + regionSize ≤ from). inr (omega arith)) apart
 
   -- what the next turn asks
   pub turn-asks : (k l : ℕ) (m : List ℕ) → d < mostVariables → l ≡ links + 4 * e → SoFar d from to links work e k m → length m ≡ length work

@@ -65,7 +65,8 @@ module _ (n : ℕ) (values care rows : List ℕ) where
         subst (λ (y : ℕ). (0 + (y + 1)) * (w + w) ≤ regionSize) (sym c)
         (mul-le-mul {n₂ = mostOutputs} {m₂ = 256} (omega sizes) (omega (sizes, part-size, width-room n small))) in
         let t =
-        level-step w 0 linksAt work (omega sizes) (omega sizes) [] fs (g ∷ []) tt (outputs-long j) (length-gathered values care rows n j, tt) room
+        level-step w 0 linksAt work (omega sizes) (omega sizes) [] fs (g ∷ []) tt (outputs-long j)
+        (length-gathered values care rows n j, tt) room
         k r (linksAt + 2 * j) m m′ (so-far .entries) (so-far .buffer) (omega sizes) p q in
         record {
           entries = t .0 ∙ ap (λ (y : List (List ℕ)). length (levelParts w [] y .parts)) (sym (outputs-more j));

@@ -102,7 +102,8 @@ pub agree-digit : (i a c b d : Bool) → agreeByte i (digit a) (digit c) (digit 
 unfolding agreeByte
 agree-digit i a c b d =
     beq→eq (agreeByte i (digit a) (digit c) (digit b) (digit d)) (not (c && d) || Bool·beq (flip i a) b)
-    (every-at (λ i a c b d. Bool·beq (agreeByte i (digit a) (digit c) (digit b) (digit d)) (not (c && d) || Bool·beq (flip i a) b)) tt i a c b d)
+    (every-at (λ i a c b d. Bool·beq (agreeByte i (digit a) (digit c) (digit b) (digit d))
+    (not (c && d) || Bool·beq (flip i a) b)) tt i a c b d)
 
 pub merge-digit : (i a c b : Bool) → mergeByte i (digit a) (digit c) (digit b) ≡ digit (cond c (flip i a) b)
 unfolding mergeByte

@@ -65,7 +65,8 @@ bits-low b d m x q t =
     ∙ ap (λ (n : ℕ). x / 2 ^ n % 2 ^ (2 ^ d)) (sym (zero-mul (2 ^ d))))
 
 -- below a byte a half has a byte of values and a byte of care
-half-bits : (b : Bool) (d : ℕ) (part : List ℕ) → d < 3 → halfPart b d part ≡ halfByte b d (getD part 0 0) ∷ halfByte b d (getD part 1 0) ∷ []
+half-bits : (b : Bool) (d : ℕ) (part : List ℕ) → d < 3
+    → halfPart b d part ≡ halfByte b d (getD part 0 0) ∷ halfByte b d (getD part 1 0) ∷ []
 unfolding halfPart
 half-bits b d part h =
     let e = lt-ltb d 3 h in

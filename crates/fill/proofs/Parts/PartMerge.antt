@@ -84,12 +84,14 @@ module _ (i : Bool) (w : ℕ) (f g : List ℕ) where
 
     -- one byte more, as a turn of the loop takes m to m′
     pub merged-more : (j : ℕ) (m m′ : List ℕ) → j < w → m ≡ merged j
-        → m′ ≡ set (set m j (mergeByte i (getD f j 0) (getD f (w + j) 0) (getD m j 0))) (w + j) (bitOr (getD f (w + j) 0) (getD m (w + j) 0))
+        → m′ ≡ set (set m j (mergeByte i (getD f j 0) (getD f (w + j) 0) (getD m j 0))) (w + j)
+        (bitOr (getD f (w + j) 0) (getD m (w + j) 0))
         → m′ ≡ merged (j + 1)
     unfolding valueAt careAt
     merged-more j m m′ h e e′ =
         e′
-        ∙ ap (λ (y : List ℕ). set (set y j (mergeByte i (getD f j 0) (getD f (w + j) 0) (getD y j 0))) (w + j) (bitOr (getD f (w + j) 0) (getD y (w + j) 0))) e
+        ∙ ap (λ (y : List ℕ). set (set y j (mergeByte i (getD f j 0) (getD f (w + j) 0) (getD y j 0))) (w + j)
+        (bitOr (getD f (w + j) 0) (getD y (w + j) 0))) e
         ∙ ap₂ (λ (a b : ℕ). set (set (merged j) j (mergeByte i (getD f j 0) (getD f (w + j) 0) a)) (w + j) (bitOr (getD f (w + j) 0) b))
         (value-kept j h) (care-kept j h)
         ∙ stored j h

@@ -86,7 +86,8 @@ module _ {B : Type 0} (Q : ℕ → ℕ → ℕ → ℕ → B) where
 
 -- a test that on numbers is R, and R of a node is R of its halves
 pub tested : (Q : ℕ → ℕ → ℕ → ℕ → Bool) (R : (d : ℕ) → Tree Row d → Tree Row d → Bool)
-    → ((d : ℕ) (f g : Tree Row d) → Q (num (λ r. r .value) f) (num (λ r. r .care) f) (num (λ r. r .value) g) (num (λ r. r .care) g) ≡ R d f g)
+    → ((d : ℕ) (f g : Tree Row d) → Q (num (λ r. r .value) f) (num (λ r. r .care) f) (num (λ r. r .value) g) (num (λ r. r .care) g)
+    ≡ R d f g)
     → ((d : ℕ) (l h l′ h′ : Tree Row d) → R (suc d) (node l h) (node l′ h′) ≡ (R d l l′ && R d h h′))
     → (d : ℕ) (f g : Tree Row d) → all (λ b. b) (bytes Q f g) ≡ R d f g
 tested Q R n s zero (leaf r) (leaf r′) =

@@ -32,9 +32,11 @@ module _ {A : Type 0} (p : A → Bool) where
       ∙ ap (λ n. n % 2 ^ (2 ^ d)) (high (num p h) (2 ^ d) (num-lt p l)) ∙ mod-eq-of-lt (num-lt p h)
 
   -- the bytes of a half, out of those of all rows
-  half-cut : {d : ℕ} (b : Bool) (l h : Tree A d) → take (width d) (drop (digit b * width d) (pack p l ++ pack p h)) ≡ pack p (half b (node l h))
+  half-cut : {d : ℕ} (b : Bool) (l h : Tree A d)
+      → take (width d) (drop (digit b * width d) (pack p l ++ pack p h)) ≡ pack p (half b (node l h))
   half-cut {d} false l h =
-      ap (λ k. take (width d) (drop k (pack p l ++ pack p h))) (zero-mul (width d)) ∙ take-at (pack p l) (pack p h) (width d) (pack-length p l)
+      ap (λ k. take (width d) (drop k (pack p l ++ pack p h))) (zero-mul (width d)) ∙ take-at (pack p l) (pack p h) (width d)
+      (pack-length p l)
   half-cut {d} true l h =
       ap (λ k. take (width d) (drop k (pack p l ++ pack p h))) (one-mul (width d))
       ∙ ap (take (width d)) (drop-at (pack p l) (pack p h) (width d) (pack-length p l))

@@ -1,5 +1,5 @@
--- The room that a filling takes: where candidates of d variables have at most 16,384 rows in all, every level's entries fit a region. A level
--- has at most one entry a candidate, and up to three variables at most 127.
+-- The room that a filling takes: where candidates of d variables have at most 16,384 rows in all, every level's entries fit a region. A
+-- level has at most one entry a candidate, and up to three variables at most 127.
 -- Assumes nothing.
 use mathlib.Core.Path.{_≡_, sym, ap, subst}
 use mathlib.Core.Bool.{true, _&&_}
@@ -71,9 +71,11 @@ roomy-filled zero fs h = rw (length-map (entriesOf fs) encode, entries-none true
 roomy-filled (suc d) fs h =
     let k = length (partsOf fs) in
     let e : length (entriesOf fs) ≡ k = sym (length-map (entriesOf fs) encode) in
-    let r = subst (λ (n : ℕ). (n * (width (suc d) + width (suc d)) ≤ regionSize) × ((n + n) * (width d + width d) ≤ regionSize)) e (fits-here d fs h) in
+    let r = subst (λ (n : ℕ). (n * (width (suc d) + width (suc d)) ≤ regionSize) × ((n + n) * (width d + width d) ≤ regionSize)) e
+    (fits-here d fs h) in
     let more : T (roomy d (levelBelow d (partsOf fs) .parts)) =
-    subst (λ (l : LevelParts). T (roomy d (l .parts))) (sym (below-bytes (entriesOf fs))) (roomy-filled d (halves (entriesOf fs)) (rows-next fs h)) in
+    subst (λ (l : LevelParts). T (roomy d (l .parts))) (sym (below-bytes (entriesOf fs)))
+    (roomy-filled d (halves (entriesOf fs)) (rows-next fs h)) in
     let a = leb (k * (width (suc d) + width (suc d))) regionSize in
     let b = leb ((k + k) * (width d + width d)) regionSize in
     let c = roomy d (levelBelow d (partsOf fs) .parts) in

@@ -37,7 +37,8 @@ returns c =
     let m = l .links .last .1 .1 .1 .0 in
     let d = sym (ap done (answer l)) ∙ sym (is-first (l .links .result .answer) (k .match .keys1)) in (
       l .links .ensures .0,
-      count-cleared (a .state) (now (a .values)) (now (a .care)) (now (a .work)) m (c .before .before .clear .last .0) d (l .links .ensures .1)
+      count-cleared (a .state) (now (a .values)) (now (a .care)) (now (a .work)) m (c .before .before .clear .last .0) d
+          (l .links .ensures .1)
           (c .before .before .clear .ensures) (l .links .kept .1 .1 .1 .0),
     )
 

@@ -54,7 +54,8 @@ returns-4 c =
     let w = t .before in
     let a = w .before .before .before .before .before .before .args in
     let r = links-refused (a .state) (now (a .values)) (now (a .care)) (now (a .work)) NoTable
-    (no-table (a .state) (now (a .values)) (now (a .care)) (now (a .work)) (omega (sizes, w .before .before .if1 .left)) (omega (sizes, w .before .if2 .left)) (omega (sizes, w .if3 .left))
+    (no-table (a .state) (now (a .values)) (now (a .care)) (now (a .work)) (omega (sizes, w .before .before .if1 .left))
+    (omega (sizes, w .before .if2 .left)) (omega (sizes, w .if3 .left))
     (sym (t .holds-table .ensures) ∙ not-true (t .holds-table .result) (c .before .if4 .taken))) refl in
     (c .refused4 .ensures ∙ r .0, r .1)
 

@@ -1,4 +1,5 @@
--- `fill::cells::level_counts` meets its contract. The loop's invariant: the levels before p are counted, and the links of level p begin at `at`.
+-- `fill::cells::level_counts` meets its contract. The loop's invariant: the levels before p are counted, and the links of level p begin at
+-- `at`.
 -- Assumes nothing.
 use borrow.Author.Needs.{needs}
 use denote.Ref.{now}

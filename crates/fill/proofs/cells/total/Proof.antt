@@ -16,7 +16,7 @@ abbrev Inv-loop : tie.InvT-loop
 Inv-loop counts cells₀ p₀ cells p = (p ≤ mostVariables) × (cells + sum _+_ 0 (drop p counts) ≡ sum _+_ 0 counts)
 
 abbrev μ-loop : tie.MeasureT-loop
-μ-loop counts cells₀ p₀ cells p = 10 - p
+μ-loop counts cells₀ p₀ cells p = mostVariables - p
 
 loop-holds : tie.Need-loop-holds Inv-loop μ-loop
 loop-holds c = (search needs, zero-add _)

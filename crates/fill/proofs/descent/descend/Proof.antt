@@ -1,5 +1,5 @@
--- `fill::descent::descend` meets its contract. The loop's invariant: the entries of d variables lie in one region, all else of the regions is zero,
--- and the links so far, with those of the levels below, are all. Assumes nothing.
+-- `fill::descent::descend` meets its contract. The loop's invariant: the entries of d variables lie in one region, all else of the regions
+-- is zero, and the links so far, with those of the levels below, are all. Assumes nothing.
 use borrow.Author.Needs.{needs}
 use denote.Ref.{now}
 use mathlib.Core.Path.{_≡_, refl, ap, subst}
@@ -61,7 +61,8 @@ links-fit : (c : tie.In-loop Inv-loop μ-loop) → c .before .loop .at + 4 * c .
 links-fit c =
     let s = begun c in
     let l = c .before .loop in
-    going-asks (s .args .n) (all c) (first c) (now (s .args .work)) (s .pre .0 .2) (l .d - 1) (l .from) (l .at) (l .k) (l .work) (l .entries) (down c)
+    going-asks (s .args .n) (all c) (first c) (now (s .args .work)) (s .pre .0 .2) (l .d - 1) (l .from) (l .at) (l .k) (l .work)
+    (l .entries) (down c)
     (l .inv .2) .1 .0 .2
 
 sub-entries : tie.Need-sub-entries Inv-loop μ-loop

@@ -44,7 +44,8 @@ returns c =
     let a = c .before .before .before .before .before .before .before .before .before .args in
     let t = c .before .before .before .try-entry in
     turn-found (a .w) (a .f .now) (a .region .now) (a .k) (l .loop .e) (l .loop .region) (t .last .1 .1 .0) (t .result)
-    (c .before .before .before .before .before .loop-test .taken) (l .loop .inv .1) (l .loop .inv .2) (t .ensures .0) (t .ensures .1) (c .if1 .taken)
+    (c .before .before .before .before .before .loop-test .taken) (l .loop .inv .1) (l .loop .inv .2) (t .ensures .0) (t .ensures .1)
+    (c .if1 .taken)
 
 add-e : tie.Need-add-e Inv-loop μ-loop
 add-e c = search needs
@@ -93,8 +94,14 @@ returns-2 c =
     let a = s .args in
     let e = le-antisymm (l .loop .inv .0) (c .before .before .before .before .loop-test .left) in
     let r = shown-end (a .w) (a .f .now) (a .region .now) (a .k) (s .pre .1 .0)
-    (subst (Passed (a .w) (a .f .now) (a .region .now) (a .k)) e (l .loop .inv .2)) in
-    (r .0, (r .1 .0, c .before .before .copy-to .ensures ∙ ap (λ m. splice m (a .k * (a .w + a .w)) (a .f .now)) (l .loop .inv .1) ∙ r .1 .1))
+    (subst (Passed (a .w) (a .f .now) (a .region .now) (a .k)) e (l .loop .inv .2)) in (
+      r .0,
+      (
+        r .1 .0,
+        c .before .before .copy-to .ensures ∙ ap (λ m. splice m (a .k * (a .w + a .w)) (a .f .now)) (l .loop .inv .1)
+            ∙ r .1 .1,
+      ),
+    )
 
 pub along-spec : {M : Type 1} → statement M
 along-spec =

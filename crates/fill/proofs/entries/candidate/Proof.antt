@@ -12,7 +12,8 @@ always-requires c κs = search needs
 returns : tie.Need-returns
 returns c =
     let a = c .before .before .before .before .args in
-    shown-always (a .w) (a .f .now) (a .region .now) (a .k) false (λ e. absurd (false≢true e)) (sym (c .before .always .ensures) ∙ c .if1 .taken)
+    shown-always (a .w) (a .f .now) (a .region .now) (a .k) false (λ e. absurd (false≢true e))
+    (sym (c .before .always .ensures) ∙ c .if1 .taken)
 
 always-requires-2 : tie.Need-always-requires-2
 always-requires-2 c κs = search needs

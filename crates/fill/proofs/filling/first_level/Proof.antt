@@ -50,7 +50,8 @@ returns c =
     (map (gatheredPart (now (a .values)) (now (a .care)) rows (st .n)) (upTo (st .m)))
     (l .link-outputs .result) (l .link-outputs .last .1 .1 .1 .1 .1 .0)
     (outputs-encode (st .n) (st .m) (now (a .values)) (now (a .care)) (st .order) rows (few-inputs st (s .pre .0)) (r .row-map .ensures))
-    (zero-start 32768 (now (a .work)) (z .last .1 .1 .0) (sym work-size) (z .ensures)) (l .link-outputs .ensures .0) (l .link-outputs .ensures .1)
+    (zero-start 32768 (now (a .work)) (z .last .1 .1 .0) (sym work-size) (z .ensures)) (l .link-outputs .ensures .0)
+    (l .link-outputs .ensures .1)
 
 pub first-level-spec : {M : Type 1} → statement M
 first-level-spec = tie.close (tie.spec zero-requires row-map-requires link-outputs-requires same-length returns)

@@ -21,7 +21,8 @@ shr-result c = shift-small (c .before .before .args .d) (c .before .before .pre)
 returns : tie.Need-returns
 returns c =
     let a = c .before .before .args in
-    bits-high (a .b) (a .d) _ (c .before .row-mask .result) (a .x) (one-shifted (a .d) (omega arith)) (c .before .row-mask .ensures) (c .if1 .taken)
+    bits-high (a .b) (a .d) _ (c .before .row-mask .result) (a .x) (one-shifted (a .d) (omega arith)) (c .before .row-mask .ensures)
+    (c .if1 .taken)
 
 returns-2 : tie.Need-returns-2
 returns-2 c =

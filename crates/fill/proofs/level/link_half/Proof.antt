@@ -8,7 +8,7 @@ use native.Mathlib.Nat.{le-of-lt}
 use native.Mathlib.Numerals.{add-one}
 use native.Mathlib.Omega.{arith}
 use lib.ListN.{length, take}
-use Rattle.reorder.specs.Sizes.{width}
+use Rattle.reorder.specs.Sizes.{width, partSize}
 use Rattle.reorder.proofs.Shifts.{part-size, width-room, width-met}
 use Rattle.fill.specs.inner.Parts.{levelParts, halfPart}
 use Rattle.fill.specs.inner.Level.{partAt, partsAt, written}
@@ -73,11 +73,11 @@ width-of-requires-2 : tie.Need-width-of-requires-2
 width-of-requires-2 c κs = search needs
 
 -- the half fits the candidate's buffer
-fits : (w : tie.After-width-of2) → w .width-of2 .result + w .width-of2 .result ≤ 256
-fits w = omega (arith, narrow w, part-size, width-room (begun w .args .d) (le-of-lt (begun w .pre .0)))
+fits : (w : tie.After-width-of2) → w .width-of2 .result + w .width-of2 .result ≤ partSize
+fits w = omega (arith, narrow w, width-room (begun w .args .d) (le-of-lt (begun w .pre .0)))
 
 add-s : tie.Need-add-s
-add-s c = omega (arith, fits c)
+add-s c = omega (arith, part-size, fits c)
 
 sub-link-part : tie.Need-sub-link-part
 sub-link-part c = search needs
@@ -86,7 +86,7 @@ part-link-part-start : tie.Need-part-link-part-start
 part-link-part-start c = search needs
 
 part-link-part-end : tie.Need-part-link-part-end
-part-link-part-end c = omega (arith, fits (c .before))
+part-link-part-end c = omega (arith, part-size, fits (c .before))
 
 -- what lies at the front of it is the half, of as many bytes as an entry's part
 abbrev half-of : tie.After-width-of2 → List ℕ
@@ -125,9 +125,11 @@ returns c =
     let w = p .before .before .before .before in
     let a = begun w .args in (
       p .link-part .ensures .0
-          ∙ ap (λ (y : List ℕ). length (levelParts (width (a .d)) (partsAt (a .d) (a .k) (a .to) (now (a .work))) (y ∷ []) .parts)) (half w),
+          ∙ ap (λ (y : List ℕ). length (levelParts (width (a .d)) (partsAt (a .d) (a .k) (a .to) (now (a .work))) (y ∷ []) .parts))
+          (half w),
       p .link-part .ensures .1
-          ∙ ap (λ (y : List ℕ). written (levelParts (width (a .d)) (partsAt (a .d) (a .k) (a .to) (now (a .work))) (y ∷ [])) (a .to) (a .l) (now (a .work)))
+          ∙ ap (λ (y : List ℕ). written (levelParts (width (a .d)) (partsAt (a .d) (a .k) (a .to) (now (a .work))) (y ∷ [])) (a .to) (a .l)
+          (now (a .work)))
           (half w),
     )
 

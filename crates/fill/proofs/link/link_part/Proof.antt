@@ -36,7 +36,8 @@ candidate-requires c κs =
     let w = c .before in
     let s = w .before .before .before in
     let a = s .args in
-    linked-asks (a .d) (a .k) (a .to) (w .width-of .result) (a .to + regionSize - a .to) (now (a .f)) (now (a .work)) (wide w) (search needs)
+    linked-asks (a .d) (a .k) (a .to) (w .width-of .result) (a .to + regionSize - a .to) (now (a .f)) (now (a .work)) (wide w)
+    (search needs)
     (s .pre .0 .1) (s .pre .1 .0 .1) (s .pre .1 .0 .0)
 
 put-link-requires : tie.Need-put-link-requires

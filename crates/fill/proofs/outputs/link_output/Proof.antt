@@ -5,7 +5,7 @@ use mathlib.Core.Path.{_≡_, ap, _∙_}
 use mathlib.Core.List.{List, [], _∷_}
 use Prim.Native.Nat.{ℕ, _+_, _*_, _-_, _≤_}
 use lib.ListN.{length, take}
-use Rattle.reorder.specs.Sizes.{width}
+use Rattle.reorder.specs.Sizes.{width, partSize}
 use Rattle.reorder.specs.Gather.{gatheredPart}
 use Rattle.reorder.proofs.Shifts.{part-size, width-room, width-met}
 use Rattle.reorder.proofs.Gathered.{length-gathered, part-front}
@@ -29,11 +29,11 @@ begun w = w .before .before .before .before .before
 wide : (w : tie.After-width-of) → w .width-of .result ≡ width (begun w .args .n)
 wide w = w .width-of .ensures ∙ width-met (begun w .args .n) (begun w .pre .0 .0)
 
-fits : (w : tie.After-width-of) → w .width-of .result + w .width-of .result ≤ 256
-fits w = omega (sizes, wide w, part-size, width-room (begun w .args .n) (begun w .pre .0 .0))
+fits : (w : tie.After-width-of) → w .width-of .result + w .width-of .result ≤ partSize
+fits w = omega (sizes, wide w, width-room (begun w .args .n) (begun w .pre .0 .0))
 
 add-s : tie.Need-add-s
-add-s c = omega (sizes, fits c)
+add-s c = omega (sizes, part-size, fits c)
 
 mul-l : tie.Need-mul-l
 mul-l c = search needs
@@ -48,7 +48,7 @@ part-link-part-start : tie.Need-part-link-part-start
 part-link-part-start c = search needs
 
 part-link-part-end : tie.Need-part-link-part-end
-part-link-part-end c = omega (sizes, fits (c .before))
+part-link-part-end c = omega (sizes, part-size, fits (c .before))
 
 -- the output at the front of what is gathered
 abbrev output-of : tie.After-width-of → List ℕ

@@ -76,7 +76,8 @@ unfolding agreePart
 returns-2 c =
     let l = c .before in
     let a = l .before .before .before .args in
-    sym (l .loop .inv .1) ∙ ap (λ n. all (test (a .i) (a .w) (a .f .now) (a .g .now)) (upTo n)) (le-antisymm (l .loop .inv .0) (c .loop-test .left))
+    sym (l .loop .inv .1) ∙ ap (λ n. all (test (a .i) (a .w) (a .f .now) (a .g .now)) (upTo n))
+    (le-antisymm (l .loop .inv .0) (c .loop-test .left))
 
 pub agree-spec : {M : Type 1} → statement M
 agree-spec =

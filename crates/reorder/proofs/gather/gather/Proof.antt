@@ -73,7 +73,8 @@ loop-again c =
     let f = gatheredByte (now (a .plane)) (a .base) (now (a .map)) (c .before .before .before .rows-in .result) in (
       search needs,
       length-set (l .part) (a .at + l .i) (c .gather-byte .result) ∙ l .inv .1,
-      from-more f (a .at) (now (a .part)) (l .i) (c .gather-byte .result) (l .part) (inside (c .before)) (l .inv .2) (c .gather-byte .ensures),
+      from-more f (a .at) (now (a .part)) (l .i) (c .gather-byte .result) (l .part) (inside (c .before)) (l .inv .2)
+          (c .gather-byte .ensures),
     )
 
 same-length : tie.Need-same-length Inv-loop μ-loop

@@ -94,7 +94,8 @@ returns-3 c =
     (w .width-of .ensures ∙ width-met (a .n) n) (g .gather .ensures) (c .before .gather2 .ensures)
     ∙ ap (λ b. plane (now (a .values)) b ++ plane (now (a .care)) b ++ drop (width (a .n) + width (a .n)) (replicate 256 0))
     (base-shifted (a .j) (a .n) j n)
-    ∙ ap (λ l. plane (now (a .values)) (a .j * 2 ^ a .n) ++ plane (now (a .care)) (a .j * 2 ^ a .n) ++ drop (width (a .n) + width (a .n)) l) zeros
+    ∙ ap (λ l. plane (now (a .values)) (a .j * 2 ^ a .n) ++ plane (now (a .care)) (a .j * 2 ^ a .n) ++ drop
+    (width (a .n) + width (a .n)) l) zeros
     ∙ sym (part-met (now (a .values)) (now (a .care)) (a .t3) (a .n) (a .j) n j)
 
 pub gather-output-spec : {M : Type 1} → statement M

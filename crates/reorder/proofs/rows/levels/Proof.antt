@@ -42,7 +42,8 @@ loop-again c =
     let a = c .before .before .before .args in
     let l = c .before .before .loop in (
       search needs,
-      filled-more (λ w. index eqb w (take (a .n) (a .order))) mostVariables (l .v) (omega arith) (l .levels) (c .level-of .result) (l .inv .1)
+      filled-more (λ w. index eqb w (take (a .n) (a .order))) mostVariables (l .v) (omega arith) (l .levels) (c .level-of .result)
+          (l .inv .1)
           (c .level-of .ensures),
     )
 

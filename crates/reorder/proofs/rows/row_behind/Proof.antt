@@ -2,10 +2,11 @@
 -- Assumes nothing.
 use borrow.Author.Needs.{needs}
 use mathlib.Core.Path.{_≡_}
-use Prim.Native.Nat.{_≤_, _<_, _-_}
+use Prim.Native.Nat.{_≤_, _<_, _-_, _^_}
 use native.Mathlib.Omega.{arith}
 use lib.ListN.{getD}
 use Rattle.diagram.specs.Lists.{bit}
+use Rattle.diagram.specs.Bound.{mostVariables}
 use Rattle.diagram.proofs.Bits.{digit-le}
 use Rattle.reorder.proofs.RowBits.{firstBits, bits-room, bits-more, bits-all}
 use Rattle.reorder.proofs.rows.row_behind.Statement.{statement}
@@ -20,7 +21,7 @@ abbrev μ-loop : tie.MeasureT-loop
 loop-holds : tie.Need-loop-holds Inv-loop μ-loop
 loop-holds c = search needs
 
-room : (c : tie.At-loop Inv-loop μ-loop) → c .loop .row < 1024
+room : (c : tie.At-loop Inv-loop μ-loop) → c .loop .row < 2 ^ mostVariables
 room c = let a = c .before .args in omega (arith, bits-room (a .t1) (a .n) (a .s) (c .loop .v) (omega arith))
 
 mul-row : tie.Need-mul-row Inv-loop μ-loop

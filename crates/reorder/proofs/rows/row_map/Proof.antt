@@ -7,6 +7,7 @@ use Prim.Native.Nat.{_≤_, _<_, _-_, _^_}
 use native.Mathlib.Omega.{arith}
 use lib.Dec.{ltb}
 use lib.ListN.{take, replicate}
+use Rattle.diagram.specs.Bound.{mostVariables}
 use Rattle.diagram.specs.Order.{behind}
 use Rattle.diagram.proofs.Bits.{one-shifted}
 use Rattle.diagram.proofs.UpTo.{map-upTo-cong}
@@ -47,11 +48,16 @@ row-behind-requires : tie.Need-row-behind-requires Inv-loop μ-loop
 row-behind-requires c κs = search needs
 
 -- a row is below the most
-room : (c : tie.In-loop Inv-loop μ-loop) → c .before .loop .s < 1024
+room : (c : tie.In-loop Inv-loop μ-loop) → c .before .loop .s < 2 ^ mostVariables
 room c = omega (arith, most-rows, rows-room (c .before .before .before .before .args .n) (c .before .before .before .if1 .left))
 
 cast-map : tie.Need-cast-map Inv-loop μ-loop
-cast-map c = omega (arith, most-rows, rows-room (c .before .before .before .before .before .args .n) (c .before .before .before .before .if1 .left))
+cast-map c = omega (
+  arith,
+  most-rows,
+  rows-room (c .before .before .before .before .before .args .n)
+      (c .before .before .before .before .if1 .left),
+)
 
 mul-map : tie.Need-mul-map Inv-loop μ-loop
 mul-map c = omega (arith, room (c .before))
