@@ -10,7 +10,7 @@ use native.Mathlib.Omega.{arith}
 use borrow.Author.Tests.{eq-eqb, ne-eqb, le-leb, lt-leb}
 use lib.Dec.{eqb}
 use lib.ListN.{length}
-use Rattle.block.specs.Bits.{sum}
+use Rattle.block.specs.Bits.{sumBelow}
 use Rattle.block.specs.Block.{blockSize, checkAt, wholeBlocks, byte, checkOf, goodNumber}
 
 -- what one byte adds to a check is at most 510 × 255
@@ -18,12 +18,13 @@ pub weight-most : (i x : ℕ) → i < checkAt → x < 256 → (i + 1) * x ≤ ch
 weight-most i x h k = mul-le-mul {n₂ = checkAt} {m₂ = 255} (omega arith) (omega arith)
 
 -- a sum with one more term
-pub sum-more : (f : ℕ → ℕ) (i total x : ℕ) → total ≡ sum f i → x ≡ f i → total + x ≡ sum f (i + 1)
+pub sum-more : (f : ℕ → ℕ) (i total x : ℕ) → total ≡ sumBelow f i → x ≡ f i → total + x ≡ sumBelow f (i + 1)
 sum-more f i total x e d = rw (add-one i) (ap₂ _+_ e d)
 
-pub check-is : (file : List ℕ) (k i total : ℕ) → i ≡ checkAt → total ≡ sum (λ j. suc j * byte file k j) i → total % 65521 ≡ checkOf file k
+pub check-is : (file : List ℕ) (k i total : ℕ) → i ≡ checkAt → total ≡ sumBelow (λ j. suc j * byte file k j) i
+    → total % 65521 ≡ checkOf file k
 unfolding checkOf
-check-is file k i total d e = ap (λ (x : ℕ). x % 65521) (e ∙ ap (sum (λ j. suc j * byte file k j)) d)
+check-is file k i total d e = ap (λ (x : ℕ). x % 65521) (e ∙ ap (sumBelow (λ j. suc j * byte file k j)) d)
 
 -- byte 1, then the block's number
 module _ (file : List ℕ) (k x : ℕ) (e : x ≡ byte file k 1) where

@@ -4,29 +4,30 @@ use mathlib.Core.Path.{_≡_, refl, sym, ap, ap₂, _∙_}
 use Prim.Native.Nat.{ℕ, zero, suc, _+_, _-_, _≤_, _<_, min}
 use native.Mathlib.Nat.{add-zero, add-assoc}
 use native.Mathlib.Omega.{arith}
-use Rattle.block.specs.Bits.{sum}
+use Rattle.block.specs.Bits.{sumBelow}
 
-pub sum-cong : (f g : ℕ → ℕ) (k : ℕ) → ((i : ℕ) → i < k → f i ≡ g i) → sum f k ≡ sum g k
+pub sum-cong : (f g : ℕ → ℕ) (k : ℕ) → ((i : ℕ) → i < k → f i ≡ g i) → sumBelow f k ≡ sumBelow g k
 sum-cong f g zero e = refl
 sum-cong f g (suc k) e = ap₂ (λ (x y : ℕ). x + y) (sum-cong f g k (λ i h. e i (omega arith))) (e k (omega arith))
 
-pub sum-add : (f : ℕ → ℕ) (a b : ℕ) → sum f (a + b) ≡ sum f a + sum (λ i. f (a + i)) b
-sum-add f a zero = ap (sum f) (add-zero a) ∙ sym (add-zero (sum f a))
+pub sum-add : (f : ℕ → ℕ) (a b : ℕ) → sumBelow f (a + b) ≡ sumBelow f a + sumBelow (λ i. f (a + i)) b
+sum-add f a zero = ap (sumBelow f) (add-zero a) ∙ sym (add-zero (sumBelow f a))
 sum-add f a (suc b) =
     let e : a + suc b ≡ suc (a + b) = omega arith in
-    ap (sum f) e ∙ ap (λ (x : ℕ). x + f (a + b)) (sum-add f a b) ∙ add-assoc (sum f a) (sum (λ i. f (a + i)) b) (f (a + b))
+    ap (sumBelow f) e ∙ ap (λ (x : ℕ). x + f (a + b)) (sum-add f a b) ∙ add-assoc (sumBelow f a) (sumBelow (λ i. f (a + i)) b) (f (a + b))
 
 -- a sum up to k taken by parts: none, the part of at most `size` from `from` on, and all
 
-pub sum-none : (f : ℕ → ℕ) (k : ℕ) → 0 ≡ sum f (min 0 k)
-sum-none f k = let e : 0 ≡ min 0 k = omega arith in ap (sum f) e
+pub sum-none : (f : ℕ → ℕ) (k : ℕ) → 0 ≡ sumBelow f (min 0 k)
+sum-none f k = let e : 0 ≡ min 0 k = omega arith in ap (sumBelow f) e
 
 pub sum-part : (f : ℕ → ℕ) (from size k : ℕ) → from < k
-    → sum f (min from k) + sum (λ i. f (from + i)) (min size (k - from)) ≡ sum f (min (from + size) k)
+    → sumBelow f (min from k) + sumBelow (λ i. f (from + i)) (min size (k - from)) ≡ sumBelow f (min (from + size) k)
 sum-part f from size k h =
     let e : min from k ≡ from = omega arith in
     let d : from + min size (k - from) ≡ min (from + size) k = omega arith in
-    ap (λ (x : ℕ). sum f x + sum (λ i. f (from + i)) (min size (k - from))) e ∙ sym (sum-add f from (min size (k - from))) ∙ ap (sum f) d
+    ap (λ (x : ℕ). sumBelow f x + sumBelow (λ i. f (from + i)) (min size (k - from))) e ∙ sym (sum-add f from (min size (k - from)))
+    ∙ ap (sumBelow f) d
 
-pub sum-whole : (f : ℕ → ℕ) (from k : ℕ) → k ≤ from → sum f (min from k) ≡ sum f k
-sum-whole f from k h = let e : min from k ≡ k = omega arith in ap (sum f) e
+pub sum-whole : (f : ℕ → ℕ) (from k : ℕ) → k ≤ from → sumBelow f (min from k) ≡ sumBelow f k
+sum-whole f from k h = let e : min from k ≡ k = omega arith in ap (sumBelow f) e

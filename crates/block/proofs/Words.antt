@@ -15,7 +15,7 @@ use lib.ListN.{getD}
 use Rattle.diagram.specs.Lists.{digit}
 use Rattle.diagram.proofs.Bools.{split}
 use Rattle.diagram.proofs.Bits.{digit-eqb}
-use Rattle.block.specs.Bits.{streamBit, sum, wordOf}
+use Rattle.block.specs.Bits.{streamBit, sumBelow, wordOf}
 use Rattle.block.proofs.Sums.{sum-cong}
 
 -- a number's bits below k are those of its remainder by 2 ^ k
@@ -31,13 +31,13 @@ ones-bit (suc zero) h = refl
 ones-bit (suc (suc b)) h = absurd (omega arith)
 
 -- the ones among the lowest k bits: the highest of them is counted apart from the others
-pub ones-sum : (n k : ℕ) → ones (n % 2 ^ k) ≡ sum (λ i. n / 2 ^ i % 2) k
+pub ones-sum : (n k : ℕ) → ones (n % 2 ^ k) ≡ sumBelow (λ i. n / 2 ^ i % 2) k
 ones-sum n zero = ap ones (mod-one n) ∙ ones-bit 0 (omega arith)
 ones-sum n (suc k) =
     let e : suc k ≡ 1 + k = omega arith in
     ap (λ (j : ℕ). ones (n % 2 ^ j)) e ∙ ap ones (mod-pow-add n 1 k) ∙ ones-cat k (n / 2 ^ k % 2) (n % 2 ^ k) (mod-lt n (pow-pos k))
     ∙ ap₂ (λ (x y : ℕ). x + y) (ones-bit (n / 2 ^ k % 2) (omega arith)) (ones-sum n k)
-    ∙ add-comm (n / 2 ^ k % 2) (sum (λ i. n / 2 ^ i % 2) k)
+    ∙ add-comm (n / 2 ^ k % 2) (sumBelow (λ i. n / 2 ^ i % 2) k)
 
 -- one byte more on top of k
 
@@ -96,7 +96,7 @@ module _ (bytes : List ℕ) (small : (i : ℕ) → getD bytes i 0 < 256) where
       ∙ sym (digit-eqb (getD bytes ((64 * w + i) / 8) 0 / 2 ^ ((64 * w + i) % 8) % 2) (omega arith))
 
   -- the lowest k bits of the word at byte 8 × w
-  pub count-low : (w k : ℕ) → k ≤ 64 → ones (wordOf bytes (8 * w) 8 % 2 ^ k) ≡ sum (λ i. digit (streamBit bytes (64 * w + i))) k
+  pub count-low : (w k : ℕ) → k ≤ 64 → ones (wordOf bytes (8 * w) 8 % 2 ^ k) ≡ sumBelow (λ i. digit (streamBit bytes (64 * w + i))) k
   count-low w k h =
       ones-sum (wordOf bytes (8 * w) 8) k
       ∙ sum-cong (λ i. wordOf bytes (8 * w) 8 / 2 ^ i % 2) (λ i. digit (streamBit bytes (64 * w + i))) k

@@ -12,9 +12,9 @@ unfoldable pub streamBit : List ℕ → ℕ → Bool
 streamBit bytes i = eqb (getD bytes (i / 8) 0 / 2 ^ (i % 8) % 2) 1
 
 -- f 0 to f (k - 1), added up
-abbrev pub sum : (ℕ → ℕ) → ℕ → ℕ
-sum f zero = 0
-sum f (suc k) = sum f k + f k
+abbrev pub sumBelow : (ℕ → ℕ) → ℕ → ℕ
+sumBelow f zero = 0
+sumBelow f (suc k) = sumBelow f k + f k
 
 -- bits 0 to k - 1 as a number, bit 0 the lowest
 abbrev pub packed : ℕ → (ℕ → Bool) → ℕ

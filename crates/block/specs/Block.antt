@@ -6,7 +6,7 @@ use Prim.Native.Nat.{ℕ, suc, _+_, _*_, _-_, _/_, _%_, _^_}
 use lib.Dec.{eqb, leb}
 use lib.ListN.{length, getD}
 use Rattle.diagram.specs.Lists.{all, upTo}
-use Rattle.block.specs.Bits.{sum}
+use Rattle.block.specs.Bits.{sumBelow}
 
 -- 'Blocks of 512 bytes'; 'bytes 4–509 content; bytes 510–511 the check'
 abbrev pub blockSize : ℕ
@@ -35,7 +35,7 @@ byte file k i = getD file (blockSize * k + i) 0
 
 -- 'the sum of (i + 1) × byte i for i from 0 to 509, modulo 65,521', and what is stored, low byte first
 unfoldable pub checkOf : List ℕ → ℕ → ℕ
-checkOf file k = sum (λ i. suc i * byte file k i) checkAt % 65521
+checkOf file k = sumBelow (λ i. suc i * byte file k i) checkAt % 65521
 
 unfoldable pub goodCheck : List ℕ → ℕ → Bool
 goodCheck file k = eqb (checkOf file k) (byte file k checkAt + 256 * byte file k (suc checkAt))

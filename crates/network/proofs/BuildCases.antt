@@ -19,7 +19,7 @@ use Rattle.table.specs.declared.Outcome.{Outcome}
 use Rattle.table.specs.declared.State.{State}
 use Rattle.table.specs.Answer.{done, number}
 use Rattle.table.specs.State.{orderOf, stageOf, isNothing}
-use Rattle.block.specs.Bits.{sum}
+use Rattle.block.specs.Bits.{sumBelow}
 use Rattle.table.specs.Calls.{over}
 use Rattle.table.proofs.Answer.{the-type}
 use Rattle.table.proofs.Held.{few-inputs, few-outputs}
@@ -149,7 +149,7 @@ module _ (s : State) (values care work roots cells : List ℕ) where
         -- the levels may be read
         pub ready : ((s .n ≤ mostVariables) × (s .m ≤ mostOutputs) × (levelAt (s .m) (k .entries) (s .n) ≤ workSize)
             × (levelAt (s .m) (k .entries) (s .n) ≤ length w))
-            × (((total ≡ sum (λ q. getD (k .counts) q 0) (s .n)) × (2 * total + 1 < storedLimit) × (3 * total ≤ length cells))
+            × (((total ≡ sumBelow (λ q. getD (k .counts) q 0) (s .n)) × (2 * total + 1 < storedLimit) × (3 * total ≤ length cells))
             × ((rootsSize ≤ length roots)
             × ((q : ℕ) → q < s .n → levelsMade (s .m) (k .entries) (k .counts) q (s .n - q) (made w cells 0) .next ≤ total)))
         ready = (

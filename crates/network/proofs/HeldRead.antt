@@ -27,7 +27,7 @@ use Rattle.diagram.proofs.Demands.{filled-length}
 use Rattle.diagram.proofs.UpTo.{length-map-upTo, map-upTo-cong}
 use Rattle.table.specs.declared.State.{State}
 use Rattle.table.specs.State.{orderOf, stageOf, isNothing}
-use Rattle.block.specs.Bits.{sum}
+use Rattle.block.specs.Bits.{sumBelow}
 use Rattle.table.specs.Calls.{over}
 use Rattle.table.proofs.Held.{few-inputs, few-outputs}
 use Rattle.fill.specs.Work.{workSize, linksAt, allLinks, traceWork, zeroWork, clearedWork}
@@ -107,7 +107,8 @@ module _ (s : State) (values care : List ℕ) where
     sized =
         trace-sized (s .m) heldEntries heldCounts (s .n) 0 drawn
         (λ j h. ap (λ i. getD heldEntries i 0) (zero-add j) ∙ per-level-at (entryCounts (s .n) drawn) j (omega (arith, few-inputs s held)))
-        (λ j h. ap (λ i. getD heldCounts i 0) (zero-add j) ∙ per-level-at (counts true (s .n) (filled true (heldTable s values care) (orderOf s)))
+        (λ j h. ap (λ i. getD heldCounts i 0) (zero-add j)
+        ∙ per-level-at (counts true (s .n) (filled true (heldTable s values care) (orderOf s)))
         j (omega (arith, few-inputs s held))
         ∙ ap (λ (l : List ℕ). getD l j 0) (sym counts-traced))
 
@@ -127,10 +128,10 @@ module _ (s : State) (values care : List ℕ) where
           outputs-length,
         )
 
-    pub held-total : wanted s values care ≡ sum (λ q. getD heldCounts q 0) (s .n)
+    pub held-total : wanted s values care ≡ sumBelow (λ q. getD heldCounts q 0) (s .n)
     held-total =
         wanted-nodes ∙ ap length network-nodes ∙ sym (zero-add (length (tracedNodes true 0 0 lss)))
-        ∙ sym (sized-nodes (s .m) heldEntries heldCounts lss 0 sized) ∙ ap (sum (λ q. getD heldCounts q 0)) levels-length
+        ∙ sym (sized-nodes (s .m) heldEntries heldCounts lss 0 sized) ∙ ap (sumBelow (λ q. getD heldCounts q 0)) levels-length
 
     module _ (work cells : List ℕ) where
       abbrev w : List ℕ
@@ -171,9 +172,12 @@ module _ (s : State) (values care : List ℕ) where
           (subst (λ k. q < k) (sym (lower-length (s .n) drawn)) h) in
           let z = zero-add q in
           let k = lower-length (s .n) drawn in
-          let e′ : levelsMade (s .m) heldEntries heldCounts q (s .n - q) (made w cells 0) .next ≡ sum (λ r. getD heldCounts r 0) (suc q) =
-          subst (λ n. levelsMade (s .m) heldEntries heldCounts q (n - q) (made w cells 0) .next ≡ sum (λ r. getD heldCounts r 0) (suc q)) k
-          (subst (λ x. levelsMade (s .m) heldEntries heldCounts x (length lss - q) (made w cells 0) .next ≡ sum (λ r. getD heldCounts r 0)
+          let e′ : levelsMade (s .m) heldEntries heldCounts q (s .n - q) (made w cells 0) .next ≡ sumBelow (λ r. getD heldCounts r 0)
+          (suc q) =
+          subst (λ n. levelsMade (s .m) heldEntries heldCounts q (n - q) (made w cells 0) .next ≡ sumBelow (λ r. getD heldCounts r 0)
+          (suc q)) k
+          (subst (λ x. levelsMade (s .m) heldEntries heldCounts x (length lss - q) (made w cells 0) .next ≡ sumBelow
+          (λ r. getD heldCounts r 0)
           (suc x)) z e) in
           omega (arith, e′, held-total, sum-below (λ r. getD heldCounts r 0) q (s .n) h)
 

@@ -9,7 +9,7 @@ use lib.Dec.{T}
 use lib.ListN.{length, getD, drop}
 use Rattle.table.specs.declared.State.{State}
 use Rattle.table.specs.State.{stageOf, isNothing}
-use Rattle.block.specs.Bits.{sum}
+use Rattle.block.specs.Bits.{sumBelow}
 use Rattle.table.specs.Calls.{over}
 use Rattle.fill.specs.Work.{workSize, traceWork, zeroWork, clearedWork}
 use Rattle.fill.proofs.Buffers.Sizes.{work-size}
@@ -57,8 +57,8 @@ module _ (s : State) (values care : List ℕ) (held : T (not (isNothing (stageOf
           links-at,
         )
 
-    pub ready-total : total ≡ sum (λ q. getD counts q 0) (s .n)
-    ready-total = et ∙ held-total s values care held ∙ ap (λ (x : List ℕ). sum (λ q. getD x q 0) (s .n)) (sym ec)
+    pub ready-total : total ≡ sumBelow (λ q. getD counts q 0) (s .n)
+    ready-total = et ∙ held-total s values care held ∙ ap (λ (x : List ℕ). sumBelow (λ q. getD x q 0) (s .n)) (sym ec)
 
     pub ready-few : 2 * total + 1 < storedLimit
     ready-few = omega (arith, et, few-wanted s values care held)

@@ -5,7 +5,7 @@ use mathlib.Core.List.{List}
 use Prim.Native.Nat.{ℕ, zero, suc, _+_, _-_, _≤_}
 use native.Mathlib.Omega.{arith}
 use lib.ListN.{length, getD}
-use Rattle.block.specs.Bits.{sum}
+use Rattle.block.specs.Bits.{sumBelow}
 use Rattle.network.specs.inner.Levels.{Made, made, levelMade, levelAt, levelFrom, levelsMade}
 use Rattle.network.proofs.Entries.{level-work, level-cells}
 
@@ -18,7 +18,7 @@ module _ (m : ℕ) (entries counts : List ℕ) where
   levels-work p zero s = refl
   levels-work p (suc k) s =
       level-work p (levelAt m entries (suc p)) (levelAt m entries p) (getD entries p 0)
-      (made (L (suc p) k s .work) (L (suc p) k s .cells) (sum (λ q. getD counts q 0) p))
+      (made (L (suc p) k s .work) (L (suc p) k s .cells) (sumBelow (λ q. getD counts q 0) p))
       ∙ levels-work (suc p) k s
 
   pub levels-cells : (p k : ℕ) (s : Made) → length (L p k s .cells) ≡ length (s .cells)
@@ -26,7 +26,7 @@ module _ (m : ℕ) (entries counts : List ℕ) where
   levels-cells p zero s = refl
   levels-cells p (suc k) s =
       level-cells p (levelAt m entries (suc p)) (levelAt m entries p) (getD entries p 0)
-      (made (L (suc p) k s .work) (L (suc p) k s .cells) (sum (λ q. getD counts q 0) p))
+      (made (L (suc p) k s .work) (L (suc p) k s .cells) (sumBelow (λ q. getD counts q 0) p))
       ∙ levels-cells (suc p) k s
 
   pub no-levels : (n : ℕ) (s : Made) → L n (n - n) s ≡ s
@@ -43,10 +43,10 @@ module _ (m : ℕ) (entries counts : List ℕ) where
         let a′ : p ≡ suc q = omega arith in
         rw (ew, ec, k, a′)
 
-    pub turn-level : (i below base : ℕ) → i ≡ levelAt m entries q → below ≡ levelAt m entries p → base ≡ sum (λ r. getD counts r 0) q
+    pub turn-level : (i below base : ℕ) → i ≡ levelAt m entries q → below ≡ levelAt m entries p → base ≡ sumBelow (λ r. getD counts r 0) q
         → levelMade q below i (getD entries q 0) (made w c base) ≡ L q (n - q) s
     turn-level i below base ei eb es =
         let a′ : p ≡ suc q = omega arith in
         ap₂ (λ x y. levelMade q x i (getD entries q 0) (made w c y)) (eb ∙ ap (levelAt m entries) a′) es
-        ∙ ap (λ x. levelMade q (levelAt m entries (suc q)) x (getD entries q 0) (made w c (sum (λ r. getD counts r 0) q))) ei
+        ∙ ap (λ x. levelMade q (levelAt m entries (suc q)) x (getD entries q 0) (made w c (sumBelow (λ r. getD counts r 0) q))) ei
         ∙ one-more

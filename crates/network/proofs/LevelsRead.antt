@@ -13,7 +13,7 @@ use Rattle.diagram.specs.Fill.{Link}
 use Rattle.diagram.specs.Diagram.{Node}
 use Rattle.diagram.specs.inner.Trace.{differing, entryNodes, tracedRefs, tracedNodes}
 use Rattle.diagram.proofs.Rising.{AllValid}
-use Rattle.block.specs.Bits.{sum}
+use Rattle.block.specs.Bits.{sumBelow}
 use Rattle.fill.specs.Work.{allLinks}
 use Rattle.network.specs.Lent.{numbersOf}
 use Rattle.network.specs.inner.Levels.{Made, made, levelMade, levelAt, levelsMade}
@@ -43,7 +43,7 @@ traced-length base (ls ∷ lss) = refs-length base (tracedRefs true (base + diff
 
 module _ (m : ℕ) (entries counts : List ℕ) where
   abbrev C : ℕ → ℕ
-  C = sum (λ q. getD counts q 0)
+  C = sumBelow (λ q. getD counts q 0)
 
   -- lss are the links of the levels from p on: two an entry, each a constant or an entry of the next level, as many that differ as counted
   abbrev pub Sized : ℕ → List (List Link) → Type 0

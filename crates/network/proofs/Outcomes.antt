@@ -203,6 +203,7 @@ module _ (s : State) (values care work : List ℕ) where
     unfolding levelsOf
     levels-entries = rw e
 
-    pub levels-counts : levelsOf s values care work .counts ≡ perLevel (counts true (s .n) (filled true (heldTable s values care) (orderOf s)))
+    pub levels-counts : levelsOf s values care work .counts ≡ perLevel
+        (counts true (s .n) (filled true (heldTable s values care) (orderOf s)))
     unfolding levelsOf
     levels-counts = rw e

@@ -20,7 +20,7 @@ ghost use Rattle.diagram.specs.Bound.{mostVariables, mostOutputs};
 ghost use Rattle.diagram.specs.Demands.{NoneFits};
 ghost use Rattle.table.specs.Answer.{done, number};
 ghost use Rattle.table.specs.State.{orderOf};
-ghost use Rattle.block.specs.Bits.{sum};
+ghost use Rattle.block.specs.Bits.{sumBelow};
 ghost use Rattle.table.specs.Calls.{over};
 ghost use Rattle.fill.specs.Work.{workSize, clearedWork};
 ghost use Rattle.fill.specs.Calls.{heldTable};
@@ -40,7 +40,7 @@ fn lay_out(
     cells: &mut [u16],
 )
     requires { ⌜ (n ≤ mostVariables) × (m ≤ mostOutputs) × (levelAt m entries n ≤ workSize) × (levelAt m entries n ≤ length (now work)) ⌝ }
-    requires { ⌜ (total ≡ sum (λ q. getD counts q 0) n) × (2 * total + 1 < storedLimit) × (3 * total ≤ length (now cells)) ⌝ }
+    requires { ⌜ (total ≡ sumBelow (λ q. getD counts q 0) n) × (2 * total + 1 < storedLimit) × (3 * total ≤ length (now cells)) ⌝ }
     requires { ⌜ rootsSize ≤ length (now roots) ⌝ }
     requires { ⌜ ((q : ℕ) → q < n → levelsMade m entries counts q (n - q) (made (now work) (now cells) 0) .next ≤ total) ⌝ }
     ensures work { λ _.

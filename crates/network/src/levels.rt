@@ -11,7 +11,7 @@ ghost use Prim.Native.Nat.{ℕ, _+_, _-_, _*_, _<_, _≤_};
 ghost use lib.ListN.{length, getD};
 ghost use lib.Seq.{sets};
 ghost use Rattle.diagram.specs.Bound.{mostVariables, mostOutputs};
-ghost use Rattle.block.specs.Bits.{sum};
+ghost use Rattle.block.specs.Bits.{sumBelow};
 ghost use Rattle.fill.specs.Work.{workSize};
 ghost use Rattle.network.specs.Lent.{numberLimit};
 ghost use Rattle.network.specs.inner.Levels.{storedLimit, made, entryMade, levelMade, levelAt, levelsMade};
@@ -111,7 +111,7 @@ pub(crate) fn read_levels(
     cells: &mut [u16],
 )
     requires { ⌜ (n ≤ mostVariables) × (end ≡ levelAt m entries n) × (end ≤ workSize) × (end ≤ length (now work)) ⌝ }
-    requires { ⌜ (total ≡ sum (λ q. getD counts q 0) n) × (2 * total + 1 < storedLimit) × (3 * total ≤ length (now cells)) ⌝ }
+    requires { ⌜ (total ≡ sumBelow (λ q. getD counts q 0) n) × (2 * total + 1 < storedLimit) × (3 * total ≤ length (now cells)) ⌝ }
     requires { ⌜ ((q : ℕ) → q < n → levelsMade m entries counts q (n - q) (made (now work) (now cells) 0) .next ≤ total) ⌝ }
     ensures work { λ _.
         ⌜ now (work .exit) ≡ levelsMade m entries counts 0 n (made (now (work .entry)) (now (cells .entry)) 0) .work ⌝ }

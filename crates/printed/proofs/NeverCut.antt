@@ -34,7 +34,7 @@ use Rattle.table.specs.declared.Answer.the-variants.{
 use Rattle.table.specs.declared.Outcome.{Outcome}
 use Rattle.table.specs.declared.State.{State}
 use Rattle.table.specs.Answer.{number, value, done}
-use Rattle.block.specs.Bits.{streamBit, sum}
+use Rattle.block.specs.Bits.{streamBit, sumBelow}
 use Rattle.table.specs.Stream.{caredBits}
 use Rattle.table.specs.State.{orderOf, stageOf, isNothing}
 use Rattle.table.specs.Calls.{planeSize, over, caredAnswer}
@@ -76,7 +76,7 @@ refused-fits a = omega (arith, line-few refused-word (number a) 3 (spaced-two (n
 
 -- the cared bits are at most the stream's
 
-sum-few : (f : ℕ → Bool) (k : ℕ) → sum (λ i. digit (f i)) k ≤ k
+sum-few : (f : ℕ → Bool) (k : ℕ) → sumBelow (λ i. digit (f i)) k ≤ k
 sum-few f zero = omega arith
 sum-few f (suc k) = omega (arith, sum-few f k, digit-le (f k))
 

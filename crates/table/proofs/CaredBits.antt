@@ -15,7 +15,7 @@ use Rattle.diagram.specs.Lists.{digit}
 use Rattle.diagram.proofs.Bits.{one-shifted}
 use Rattle.table.specs.declared.State.{State}
 use Rattle.table.specs.declared.Answer.the-variants.{Done, ShortBuffer, NoTable}
-use Rattle.block.specs.Bits.{streamBit, sum, wordOf}
+use Rattle.block.specs.Bits.{streamBit, sumBelow, wordOf}
 use Rattle.table.specs.Stream.{caredBits}
 use Rattle.table.specs.State.{stageOf, isNothing}
 use Rattle.table.specs.Calls.{planeSize, caredAnswer}
@@ -28,12 +28,13 @@ mask-some k h = subst (λ (x : ℕ). 1 ≤ x) (sym (one-shifted k h)) (pow-pos k
 
 -- what a word adds: of the bits from 64 × w on, so many as are left of the stream
 abbrev pub Counted : List ℕ → ℕ → ℕ → ℕ → Type 0
-Counted bytes w bits count = (count ≡ sum (λ i. digit (streamBit bytes (64 * w + i))) (min 64 (bits - 64 * w))) × (count ≤ 64)
+Counted bytes w bits count = (count ≡ sumBelow (λ i. digit (streamBit bytes (64 * w + i))) (min 64 (bits - 64 * w))) × (count ≤ 64)
 
 module _ (bytes : List ℕ) (small : (i : ℕ) → getD bytes i 0 < 256) (w bits x : ℕ) (e : x ≡ wordOf bytes (8 * w) 8) where
   counted : (k : ℕ) → k ≤ 64 → k ≡ min 64 (bits - 64 * w) → (y : ℕ) → y ≡ x % 2 ^ k → Counted bytes w bits (ones y)
   counted k h m y d = (
-    ap ones d ∙ ap (λ (z : ℕ). ones (z % 2 ^ k)) e ∙ count-low bytes small w k h ∙ ap (sum (λ i. digit (streamBit bytes (64 * w + i)))) m,
+    ap ones d ∙ ap (λ (z : ℕ). ones (z % 2 ^ k)) e ∙ count-low bytes small w k h
+        ∙ ap (sumBelow (λ i. digit (streamBit bytes (64 * w + i)))) m,
     le-trans (ones-le k y (subst (λ (z : ℕ). z < 2 ^ k) (sym d) (mod-lt x (pow-pos k)))) h,
   )
 
@@ -62,9 +63,9 @@ module _ (s : State) (care : List ℕ) where
   cared-no-table h e = rw (le-leb planeSize (length care) h, e)
 
   pub cared-done : planeSize ≤ length care → not (isNothing (stageOf s)) ≡ true → s .m * 2 ^ s .n ≤ mostBits → (x : ℕ)
-      → x ≡ sum (λ i. digit (streamBit care i)) (s .m * 2 ^ s .n % 2 ^ 64) → caredAnswer s care ≡ Done x
+      → x ≡ sumBelow (λ i. digit (streamBit care i)) (s .m * 2 ^ s .n % 2 ^ 64) → caredAnswer s care ≡ Done x
   unfolding caredAnswer caredBits
   cared-done h e l x d =
       let k : s .m * 2 ^ s .n < 2 ^ 64 = omega arith in
       rw (le-leb planeSize (length care) h, e)
-      (ap Done (ap (sum (λ i. digit (streamBit care i))) (sym (mod-eq-of-lt k)) ∙ sym d))
+      (ap Done (ap (sumBelow (λ i. digit (streamBit care i))) (sym (mod-eq-of-lt k)) ∙ sym d))

@@ -7,14 +7,14 @@ use block::bits::word_at;
 ghost use mathlib.Core.Path.{_≡_};
 ghost use Prim.Native.Nat.{_+_, _*_, _-_, _≤_, _<_, min};
 ghost use Rattle.diagram.specs.Lists.{digit};
-ghost use Rattle.block.specs.Bits.{streamBit, sum};
+ghost use Rattle.block.specs.Bits.{streamBit, sumBelow};
 ghost use Rattle.table.specs.Calls.{caredAnswer};
 ghost use Rattle.table.specs.inner.Sizes.{mostBits};
 
 // The cared bits among the 64 from bit 64 × w on, of a stream of so many bits.
 fn cared_in(care: &[u8], w: usize, bits: usize) -> usize
     requires { ⌜ (bits ≤ mostBits) × (64 * w < bits) ⌝ }
-    ensures { λ r. ⌜ (r ≡ sum (λ i. digit (streamBit (now (care .entry)) (64 * w + i))) (min 64 (bits - 64 * w))) × (r ≤ 64) ⌝ }
+    ensures { λ r. ⌜ (r ≡ sumBelow (λ i. digit (streamBit (now (care .entry)) (64 * w + i))) (min 64 (bits - 64 * w))) × (r ≤ 64) ⌝ }
 {
     let word = word_at(care, 8 * w);
     let left = bits - 64 * w;
@@ -27,7 +27,7 @@ fn cared_in(care: &[u8], w: usize, bits: usize) -> usize
 // The cared bits among the first so many.
 fn cared_bits(care: &[u8], bits: usize) -> usize
     requires { ⌜ bits ≤ mostBits ⌝ }
-    ensures { λ r. ⌜ r ≡ sum (λ i. digit (streamBit (now (care .entry)) i)) bits ⌝ }
+    ensures { λ r. ⌜ r ≡ sumBelow (λ i. digit (streamBit (now (care .entry)) i)) bits ⌝ }
 {
     let mut total: usize = 0;
     let mut w: usize = 0;

@@ -14,7 +14,7 @@ use Rattle.diagram.specs.Fill.{Link, const, entry}
 use Rattle.diagram.specs.inner.Trace.{sameLink, differing}
 use Rattle.diagram.proofs.Bools.{split, both-ways, and-T, and-l, and-r, beq→eq, beq-refl}
 use Rattle.diagram.proofs.Bits.{digit-le}
-use Rattle.block.specs.Bits.{sum}
+use Rattle.block.specs.Bits.{sumBelow}
 use Rattle.block.proofs.Sums.{sum-add, sum-cong}
 use Rattle.reorder.specs.Sizes.{width}
 use Rattle.fill.specs.inner.Parts.{alwaysPart, agreePart, alongParts, candidatePart, levelParts, halfParts}
@@ -134,7 +134,7 @@ pairs-links work at (suc k) (x ∷ y ∷ ls) rest n u e =
     let f : ℕ → ℕ = λ i. digit (pairDiffers work (at + 4 * i)) in
     let one : suc k ≡ 1 + k = omega arith in
     let here : at + 4 * 0 ≡ at = omega arith in
-    ap (sum f) one
+    ap (sumBelow f) one
     ∙ sum-add f 1 k
     ∙ ap₂ _+_ (zero-add (f 0) ∙ ap digit (ap (pairDiffers work) here ∙ pair-links work at x y ls rest (u .0) (u .1 .0) e))
     (sum-cong (λ i. f (1 + i)) (λ i. digit (pairDiffers work (at + 4 + 4 * i))) k

@@ -7,7 +7,7 @@ use Prim.Native.Nat.{ℕ, _+_, _*_}
 use lib.Dec.{eqb}
 use lib.ListN.{getD}
 use Rattle.diagram.specs.Lists.{digit}
-use Rattle.block.specs.Bits.{sum}
+use Rattle.block.specs.Bits.{sumBelow}
 
 -- whether the two links at byte a differ
 unfoldable pub pairDiffers : List ℕ → ℕ → Bool
@@ -15,7 +15,7 @@ pairDiffers work a = not (eqb (getD work a 0) (getD work (a + 2) 0) && eqb (getD
 
 -- how many of k entries have two links that differ, the first's at byte `at`
 abbrev pub differingPairs : List ℕ → ℕ → ℕ → ℕ
-differingPairs work at k = sum (λ e. digit (pairDiffers work (at + 4 * e))) k
+differingPairs work at k = sumBelow (λ e. digit (pairDiffers work (at + 4 * e))) k
 
 -- the same of each level, where the levels have so many entries each, and their links lie one level after the other from byte `at` on
 abbrev pub countsAt : List ℕ → ℕ → List ℕ → List ℕ

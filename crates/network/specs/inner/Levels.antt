@@ -10,7 +10,7 @@ use lib.Seq.{sets}
 use Rattle.diagram.specs.Diagram.{inverts}
 use Rattle.diagram.specs.Network.{reference}
 use Rattle.diagram.specs.inner.Trace.{opposite}
-use Rattle.block.specs.Bits.{sum}
+use Rattle.block.specs.Bits.{sumBelow}
 use Rattle.fill.specs.Work.{linksAt}
 
 -- what a number of two bytes is below
@@ -60,7 +60,7 @@ levelMade p below i (suc e) s = entryMade p below (i + 4 * e) (levelMade p below
 
 -- where level p's links begin, behind those of m outputs
 abbrev pub levelAt : ℕ → List ℕ → ℕ → ℕ
-levelAt m entries p = linksAt + 2 * m + 4 * sum (λ q. getD entries q 0) p
+levelAt m entries p = linksAt + 2 * m + 4 * sumBelow (λ q. getD entries q 0) p
 
 -- the root of output j, of m: the reference that its link stands for; zero past them
 unfoldable pub rootAt : List ℕ → ℕ → ℕ → ℕ → ℕ
@@ -70,7 +70,7 @@ rootAt work m below j = cond (ltb j m) (refAt work below (storedAt work (linksAt
 abbrev pub levelFrom : ℕ → List ℕ → List ℕ → ℕ → Made → Made
 levelFrom m entries counts p s =
     levelMade p (levelAt m entries (suc p)) (levelAt m entries p) (getD entries p 0)
-    (made (s .work) (s .cells) (sum (λ q. getD counts q 0) p))
+    (made (s .work) (s .cells) (sumBelow (λ q. getD counts q 0) p))
 
 -- the k levels from level p on, the lowest first
 unfoldable pub levelsMade : ℕ → List ℕ → List ℕ → ℕ → ℕ → Made → Made

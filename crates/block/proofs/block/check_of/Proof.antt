@@ -5,13 +5,13 @@ use Prim.Native.Nat.{suc, _*_, _-_, _≤_}
 use denote.Ref.{now}
 use native.Mathlib.Omega.{arith}
 use Rattle.block.specs.Block.{checkAt, byte}
-use Rattle.block.specs.Bits.{sum}
+use Rattle.block.specs.Bits.{sumBelow}
 use Rattle.block.proofs.Check.{sum-more, check-is}
 use Rattle.block.proofs.block.check_of.Statement.{statement}
 use Rattle.block.proofs.block.check_of.Tie as tie
 
 abbrev Inv-loop : tie.InvT-loop
-Inv-loop file k total₀ i₀ total i = (i ≤ checkAt) × (total ≡ sum (λ j. suc j * byte file k j) i) × (total ≤ checkAt * 255 * i)
+Inv-loop file k total₀ i₀ total i = (i ≤ checkAt) × (total ≡ sumBelow (λ j. suc j * byte file k j) i) × (total ≤ checkAt * 255 * i)
 
 abbrev μ-loop : tie.MeasureT-loop
 μ-loop file k total₀ i₀ total i = checkAt - i

@@ -5,7 +5,7 @@ use Prim.Native.Nat.{_≤_, _-_, _+_, _*_}
 use native.Mathlib.Omega.{arith}
 use denote.Ref.{now}
 use lib.ListN.{length, getD}
-use Rattle.block.specs.Bits.{sum}
+use Rattle.block.specs.Bits.{sumBelow}
 use Rattle.network.specs.inner.Levels.{made, Made, levelAt, levelsMade}
 use Rattle.network.proofs.Offsets.{sum-above, at-above, at-rises}
 use Rattle.network.proofs.LevelTurns.{no-levels, turn-level, levels-work, levels-cells}
@@ -17,7 +17,7 @@ use Rattle.network.proofs.levels.read_level.Reads as read-level-reads
 
 abbrev Inv-loop : tie.InvT-loop
 Inv-loop n m end total work₀ cells₀ entries counts p₀ below₀ base₀ work cells p below base =
-    (p ≤ n) × (below ≡ levelAt m entries p) × (base ≡ sum (λ q. getD counts q 0) p)
+    (p ≤ n) × (below ≡ levelAt m entries p) × (base ≡ sumBelow (λ q. getD counts q 0) p)
     × (work ≡ levelsMade m entries counts p (n - p) (made work₀ cells₀ 0) .work)
     × (cells ≡ levelsMade m entries counts p (n - p) (made work₀ cells₀ 0) .cells)
 

@@ -4,7 +4,7 @@ use borrow.Author.Needs.{needs}
 use Prim.Native.Nat.{ℕ, _*_, _+_, _-_, _≤_, min}
 use mathlib.Core.Path.{_≡_, ap, ap₂, _∙_}
 use Rattle.diagram.specs.Lists.{digit}
-use Rattle.block.specs.Bits.{streamBit, sum}
+use Rattle.block.specs.Bits.{streamBit, sumBelow}
 use native.Mathlib.Omega.{arith}
 use denote.Ref.{now}
 use Rattle.block.proofs.Sums.{sum-none, sum-part, sum-whole}
@@ -13,7 +13,7 @@ use Rattle.table.proofs.cared.cared_bits.Tie as tie
 
 abbrev Inv-loop : tie.InvT-loop
 Inv-loop care bits total₀ w₀ total w =
-    (total ≡ sum (λ (i : ℕ). digit (streamBit care i)) (min (64 * w) bits)) × (total ≤ 64 * w) × (64 * w ≤ bits + 63)
+    (total ≡ sumBelow (λ (i : ℕ). digit (streamBit care i)) (min (64 * w) bits)) × (total ≤ 64 * w) × (64 * w ≤ bits + 63)
 
 abbrev μ-loop : tie.MeasureT-loop
 μ-loop care bits total₀ w₀ total w = bits - 64 * w
@@ -45,7 +45,7 @@ loop-again c =
     let f : ℕ → ℕ = λ i. digit (streamBit (now (a .care)) i) in
     let e : 64 * l .w + 64 ≡ 64 * (l .w + 1) = omega arith in (
       ap₂ (λ (x y : ℕ). x + y) (l .inv .0) (r .ensures .0) ∙ sum-part f (64 * l .w) 64 (a .bits) (search needs)
-          ∙ ap (λ (k : ℕ). sum f (min k (a .bits))) e,
+          ∙ ap (λ (k : ℕ). sumBelow f (min k (a .bits))) e,
       omega (arith, r .ensures .1),
       omega arith,
     )
