@@ -1,3 +1,4 @@
 pub mod Bits
 pub mod Block
+pub mod Numbers
 pub mod inner

@@ -1,6 +1,7 @@
-// Bytes, bits and words of lent slices, and the blocks of a file, whatever their kinds (document 01, section 1).
+// Bytes, bits, words and numbers of lent slices, and the blocks of a file, whatever their kinds (document 01, section 1).
 pub mod bits;
 pub mod block;
+pub mod numbers;
 pub mod unused;
 
 // A block's bytes, where its content and its check begin, and the bytes and bits of the content; specs/Block.antt has the definitions.

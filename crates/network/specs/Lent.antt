@@ -11,10 +11,6 @@ use Rattle.diagram.specs.Diagram.{Node, Diagram}
 abbrev pub lentNode : List ℕ → ℕ → Node
 lentNode cells i = record { level = getD cells (3 * i) 0; low = getD cells (3 * i + 1) 0; high = getD cells (3 * i + 2) 0 }
 
--- what each number of a cell and each root is below: 'three 16-bit numbers', 'roots of 16 bits'
-abbrev pub numberLimit : ℕ
-numberLimit = 65536
-
 -- the counted cells and the first m roots
 unfoldable pub lentDiagram : ℕ → ℕ → List ℕ → List ℕ → Diagram
 lentDiagram count m cells roots = record { nodes = map (lentNode cells) (upTo count); roots = take m roots }

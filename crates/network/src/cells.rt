@@ -1,23 +1,13 @@
 // Lent cells and roots: their numbers, and whether they are a well-formed diagram (document 01, number 24).
+use block::numbers::lent_number;
 ghost use mathlib.Core.Path.{_≡_};
 ghost use mathlib.Core.Bool.{true};
 ghost use Prim.Native.Nat.{_/_, _≤_, _<_};
-ghost use lib.ListN.{length, getD, take};
+ghost use lib.ListN.{length, take};
 ghost use Rattle.diagram.specs.Lists.{all};
 ghost use Rattle.diagram.specs.Diagram.{later, refers, nodeGood, wellFormed};
-ghost use Rattle.network.specs.Lent.{numberLimit, lentNode, lentDiagram};
+ghost use Rattle.network.specs.Lent.{lentNode, lentDiagram};
 ghost use Rattle.network.specs.inner.Cells.{lentCells};
-
-// Number i, or 0 past the end.
-pub fn lent_number(numbers: &[u16], i: usize) -> usize
-    ensures { λ r. ⌜ (r ≡ getD (now (numbers .entry)) i 0) × (r < numberLimit) ⌝ }
-{
-    if i < numbers.len() {
-        numbers[i] as usize
-    } else {
-        0
-    }
-}
 
 // Whether a reference is a constant, or to a counted cell at a level after p.
 fn later_than(cells: &[u16], count: usize, p: usize, r: usize) -> bool

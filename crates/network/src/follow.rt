@@ -1,5 +1,5 @@
 // What a row gives at a reference: from cell to cell along the edge for the row's bit (document 01, section 4).
-use crate::cells::lent_number;
+use block::numbers::lent_number;
 use diagram::VARIABLES;
 ghost use mathlib.Core.Path.{_≡_};
 ghost use mathlib.Core.Bool.{true};

@@ -13,7 +13,7 @@ ghost use lib.Seq.{sets};
 ghost use Rattle.diagram.specs.Bound.{mostVariables, mostOutputs};
 ghost use Rattle.block.specs.Bits.{sumBelow};
 ghost use Rattle.fill.specs.Work.{workSize};
-ghost use Rattle.network.specs.Lent.{numberLimit};
+ghost use Rattle.block.specs.Numbers.{numberLimit};
 ghost use Rattle.network.specs.inner.Levels.{storedLimit, made, entryMade, levelMade, levelAt, levelsMade};
 
 // Puts the node with index k.

@@ -5,7 +5,7 @@ use crate::put::put_byte;
 use crate::put::put_line;
 use crate::put::put_number;
 use crate::put::put_word;
-use network::cells::lent_number;
+use block::numbers::lent_number;
 use table::State;
 use table::valid::holds_network;
 ghost use Prim.Native.Nat.{_/_, _≤_, _<_, min};

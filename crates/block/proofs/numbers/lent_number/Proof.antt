@@ -1,12 +1,12 @@
--- `network::cells::lent_number` meets its contract: each number of 16 bits is below `numberLimit`, and past the end there is none.
+-- `block::numbers::lent_number` meets its contract: each number of 16 bits is below `numberLimit`, and past the end there is none.
 -- Assumes nothing.
 use borrow.Author.Needs.{needs}
 use mathlib.Core.Path.{refl, sym}
 use native.Mathlib.Omega.{arith}
 use denote.Ref.{now}
 use lib.ListN.{List·getD-eq-default}
-use Rattle.network.proofs.cells.lent_number.Statement.{statement}
-use Rattle.network.proofs.cells.lent_number.Tie as tie
+use Rattle.block.proofs.numbers.lent_number.Statement.{statement}
+use Rattle.block.proofs.numbers.lent_number.Tie as tie
 
 mul-result : tie.Need-mul-result
 mul-result c = search needs
