@@ -13,7 +13,7 @@ use Rattle.diagram.specs.Network.{normal}
 use Rattle.diagram.proofs.Bools.{split, to-T, to-not, absurd-T, and-T, and-l, and-r, beq→eq, flip-flip}
 use Rattle.diagram.proofs.Tree.{varies}
 use Rattle.diagram.proofs.Merge.{where-of, agree-sym, merge-differs, merge-varies}
-use Rattle.diagram.proofs.Fill.{Along, new, met, next, Joined, fixed, placed, candidate-view}
+use Rattle.diagram.proofs.Fill.{Along, new, met, next, Joined, fixed, linked, candidate-view}
 use Rattle.diagram.proofs.Kept.{Keeps, KeepsAll, keeps-pairs, keeps-fill}
 
 -- neither plain nor, where that is allowed, inverted is e as e′ wherever both are cared
@@ -61,7 +61,7 @@ apart-along {inv} {f} (next {g = g} m r) n a = (a .0, against-along r g (differ-
 apart-joined : {d : ℕ} {inv : Bool} {f : Tree Row d} {gs es : List (Tree Row d)} {l : Link} → Joined inv f gs l es → Apart inv gs
     → Apart inv es
 apart-joined (fixed v t) a = a
-apart-joined (placed n r) a = apart-along r n a
+apart-joined (linked n r) a = apart-along r n a
 
 apart-from : {d : ℕ} (inv : Bool) (gs fs : List (Tree Row d)) → Apart inv gs → Apart inv (level inv gs fs .entries)
 apart-from inv gs [] a = a

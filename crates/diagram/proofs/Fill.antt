@@ -68,7 +68,7 @@ along-view inv n f (g ∷ gs) =
 -- one candidate: it ends in a constant that it is on all its cared rows, or it is none and goes along the entries
 pub data Joined {d : ℕ} (inv : Bool) (f : Tree Row d) (gs : List (Tree Row d)) : Link → List (Tree Row d) → Type 0 where
   fixed : (v : Bool) → T (always v f) → Joined inv f gs (const v) gs
-  placed : {k : ℕ} {i : Bool} {es : List (Tree Row d)} → ((v : Bool) → always v f ≡ false) → Along inv f gs k i es
+  linked : {k : ℕ} {i : Bool} {es : List (Tree Row d)} → ((v : Bool) → always v f ≡ false) → Along inv f gs k i es
       → Joined inv f gs (entry k i) es
 
 neither : (a : Bool → Bool) → a false ≡ false → a true ≡ false → (v : Bool) → a v ≡ false
@@ -83,7 +83,7 @@ candidate-view inv f gs =
     (split (always true f) (λ q. rw q (fixed true (to-T q)))
     (λ q. rw q (let r = along-view inv 0 f gs in
     subst (λ l. Joined inv f gs l (along inv 0 f gs .entries)) (sym (r .3 ∙ ap (λ m. entry m (r .1)) (zero-add (r .0))))
-    (placed (neither (λ v. always v f) e q) (r .2))))))
+    (linked (neither (λ v. always v f) e q) (r .2))))))
 
 -- lengths
 
@@ -137,12 +137,12 @@ along-below (next n r) = let q = along-below r in (suc-le-suc (q .0), q .1, suc-
 joined-grows : {d : ℕ} {inv : Bool} {f : Tree Row d} {gs es : List (Tree Row d)} {l : Link} → Joined inv f gs l es
     → length gs ≤ length es
 joined-grows (fixed v t) = le-refl _
-joined-grows (placed n r) = along-below r .2
+joined-grows (linked n r) = along-below r .2
 
 joined-below : {d : ℕ} {inv : Bool} {f : Tree Row d} {gs es : List (Tree Row d)} {l : Link} → Joined inv f gs l es →
     (m : ℕ) → length es ≤ m → T (linkBelow inv m l)
 joined-below (fixed v t) m h = tt
-joined-below {inv} (placed {k = k} {i = i} n r) m h =
+joined-below {inv} (linked {k = k} {i = i} n r) m h =
     let q = along-below r in
     and-T (ltb k m) (not i || inv) (lt→ltb k m (le-trans (q .0) h)) (q .1)
 

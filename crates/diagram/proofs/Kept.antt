@@ -12,7 +12,7 @@ use Rattle.diagram.specs.Tree.{Tree, leaf, node, at, full, halves, pairs
 use Rattle.diagram.specs.Fill.{Row, always, merge, Link, const, entry, candidate, level, follow, settled, fill}
 use Rattle.diagram.proofs.Bools.{and-l, and-r, flip-flip}
 use Rattle.diagram.proofs.Merge.{where-to, Within, within-refl, within-trans, merge-first, merge-second}
-use Rattle.diagram.proofs.Fill.{fill-zero, fill-suc, Along, new, met, next, Joined, fixed, placed, candidate-view}
+use Rattle.diagram.proofs.Fill.{fill-zero, fill-suc, Along, new, met, next, Joined, fixed, linked, candidate-view}
 
 -- t has f's value at each row where f is cared
 abbrev pub Keeps : {d : ℕ} → Tree Row d → Tree Bool d → Type 0
@@ -84,13 +84,13 @@ along-still (next n r) j x (suc m) s = along-still r j x m s
 linked-still : {d : ℕ} {inv : Bool} {f : Tree Row d} {gs es : List (Tree Row d)} {l : Link} → Joined inv f gs l es →
     (x : Tree Row d) (q : Link) → Links x gs q → Links x es q
 linked-still (fixed v t) x q s = s
-linked-still (placed n r) x (const v) s = s
-linked-still (placed n r) x (entry m j) s = along-still r j x m s
+linked-still (linked n r) x (const v) s = s
+linked-still (linked n r) x (entry m j) s = along-still r j x m s
 
 joined-linked : {d : ℕ} {inv : Bool} {f : Tree Row d} {gs es : List (Tree Row d)} {l : Link} → Joined inv f gs l es
     → Links f es l
 joined-linked (fixed v t) = t
-joined-linked (placed n r) = along-stands r
+joined-linked (linked n r) = along-stands r
 
 level-still : {d : ℕ} (inv : Bool) (gs fs : List (Tree Row d)) (x : Tree Row d) (q : Link) → Links x gs q
     → Links x (level inv gs fs .entries) q

@@ -35,16 +35,16 @@ below-halves inv d fs = halves-filled inv (level inv [] fs .entries)
 abbrev row : Bool → Bool → Tree Row 0
 row c v = leaf (record { value = v; care = c })
 
-abbrev placed : Bool → Bool → List (Tree Row 0) → Linked 0
-placed c v gs = record { entries = gs; link = const (c && v) }
+abbrev linked : Bool → Bool → List (Tree Row 0) → Linked 0
+linked c v gs = record { entries = gs; link = const (c && v) }
 
-single : (inv c v : Bool) (gs : List (Tree Row 0)) → candidate inv (row c v) gs ≡ placed c v gs
+single : (inv c v : Bool) (gs : List (Tree Row 0)) → candidate inv (row c v) gs ≡ linked c v gs
 single inv true true gs = refl
 single inv true false gs = refl
 single inv false true gs = refl
 single inv false false gs = refl
 
-pub candidate-zero : (inv : Bool) (r : Row) (gs : List (Tree Row 0)) → candidate inv (leaf r) gs ≡ placed (r .care) (r .value) gs
+pub candidate-zero : (inv : Bool) (r : Row) (gs : List (Tree Row 0)) → candidate inv (leaf r) gs ≡ linked (r .care) (r .value) gs
 candidate-zero inv r gs = single inv (r .care) (r .value) gs
 
 settled-links : (inv : Bool) (gs fs : List (Tree Row 0)) → map settled fs ≡ map (follow []) (level inv gs fs .links)

@@ -32,7 +32,7 @@ use Rattle.table.specs.Calls.{over}
 use Rattle.table.proofs.Held.{few-inputs, few-outputs}
 use Rattle.fill.specs.Work.{workSize, linksAt, allLinks, traceWork, zeroWork, clearedWork}
 use Rattle.fill.specs.Calls.{heldTable, drawnOutputs, entryCounts, perLevel}
-use Rattle.fill.proofs.Room.LinksRoom.{links-room}
+use Rattle.fill.proofs.Room.LinksRoom.{linksLimit, links-room}
 use Rattle.fill.proofs.Counting.PerLevel.{per-level-at}
 use Rattle.fill.proofs.Buffers.Sizes.{work-size}
 use Rattle.network.specs.Lent.{numbersOf, rootsSize}
@@ -93,7 +93,7 @@ module _ (s : State) (values care : List ℕ) where
   wanted-nodes = refl
 
   module _ (held : T (not (isNothing (stageOf s)))) where
-    pub room : length (allLinks kss) ≤ 4350
+    pub room : length (allLinks kss) ≤ linksLimit
     room = links-room (s .n) drawn (few-inputs s held) (subst (λ k. k ≤ mostOutputs) (sym drawn-length) (few-outputs s held))
 
     pub few-wanted : wanted s values care ≤ mostNodes
@@ -144,7 +144,7 @@ module _ (s : State) (values care : List ℕ) where
       links-all : Links w linksAt (linksOf true drawn ++ allLinks lss)
       links-all =
           subst (λ (l : List (List Link)). Links w linksAt (allLinks l)) (trace-lower true (s .n) drawn)
-          (trace-links kss work room (trace-valid (s .n) 4350 drawn room))
+          (trace-links kss work room (trace-valid (s .n) linksLimit drawn room))
 
       links-outputs : Links w linksAt (linksOf true drawn)
       links-outputs = links-split w linksAt (linksOf true drawn) (allLinks lss) links-all .0

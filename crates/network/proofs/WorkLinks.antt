@@ -14,6 +14,7 @@ use Rattle.diagram.proofs.Bits.{digit-le}
 use Rattle.fill.specs.Work.{linkNumber}
 use Rattle.fill.specs.Work.{workSize, linksAt, linkBytes, allLinks, traceWork, zeroWork, clearedWork}
 use Rattle.fill.proofs.Buffers.PartLengths.{length-links}
+use Rattle.fill.proofs.Room.LinksRoom.{linksLimit}
 use Rattle.fill.proofs.Buffers.Sizes.{work-size}
 use Rattle.network.specs.inner.Levels.{storedLimit, storedAt}
 use Rattle.network.proofs.Offsets.{links-at}
@@ -21,7 +22,7 @@ use Rattle.network.proofs.Words.{Outside}
 use Rattle.network.proofs.LinkRefs.{Links}
 
 -- a link to one of few entries has a number of two bytes
-number-small : (k : Link) → Valid true 4350 k → linkNumber k < storedLimit
+number-small : (k : Link) → Valid true linksLimit k → linkNumber k < storedLimit
 number-small (const b) v = omega (arith, digit-le b)
 number-small (entry k i) v = omega (arith, digit-le i)
 
@@ -35,7 +36,7 @@ bytes-word p n q h =
     ∙ getD-at (p ++ a ∷ []) b q 0 (length p + 1) (length-append p (a ∷ [])) in
     omega (arith, low, high)
 
-bytes-links : (p : List ℕ) (ks : List Link) (q : List ℕ) → AllValid true 4350 ks → Links (p ++ (linkBytes ks ++ q)) (length p) ks
+bytes-links : (p : List ℕ) (ks : List Link) (q : List ℕ) → AllValid true linksLimit ks → Links (p ++ (linkBytes ks ++ q)) (length p) ks
 bytes-links p [] q v = tt
 bytes-links p (k ∷ ks) q v =
     let n = linkNumber k in
@@ -49,8 +50,8 @@ bytes-links p (k ∷ ks) q v =
           (subst (λ i. Links ((p ++ a ∷ b ∷ []) ++ (linkBytes ks ++ q)) i ks) long (bytes-links (p ++ a ∷ b ∷ []) ks q (v .1))),
     )
 
-module _ (kss : List (List Link)) (work : List ℕ) (room : length (allLinks kss) ≤ 4350) where
-  pub trace-links : AllValid true 4350 (allLinks kss) → Links (traceWork kss work) linksAt (allLinks kss)
+module _ (kss : List (List Link)) (work : List ℕ) (room : length (allLinks kss) ≤ linksLimit) where
+  pub trace-links : AllValid true linksLimit (allLinks kss) → Links (traceWork kss work) linksAt (allLinks kss)
   unfolding traceWork
   trace-links v =
       let front : List ℕ = replicate linksAt 0 in

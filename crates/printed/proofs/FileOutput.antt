@@ -222,7 +222,7 @@ module _ (file values care work roots cells : List ℕ) (v : length values ≡ p
       let fits : 0 + length text ≤ length before = omega (arith, printed-fits file values care work roots cells) in
       subst (λ (l : List ℕ). Whole before after behind l) text-left
       (record {
-        all = omega (arith, t .offset);
+        end = omega (arith, t .offset);
         content = t .content ∙ sets-eq text before 0 fits ∙ ap (λ (j : ℕ). text ++ drop j before) (zero-add (length text));
       })
 

@@ -9,4 +9,4 @@ use Rattle.printed.specs.Output.{Whole}
 
 pub whole-room : {before after : List ℕ} {answered : ℕ} {text : List ℕ} → Whole before after answered text → answered ≤ length after
 whole-room {before} {after} {answered} {text} w =
-    omega (arith, w .all, ap length (w .content), length-append text (drop (length text) before))
+    omega (arith, w .end, ap length (w .content), length-append text (drop (length text) before))

@@ -77,5 +77,5 @@ outputCells file cells =
 
 -- a text that stands whole at the front of a buffer, by its length and its bytes; what lies behind it is as before
 pub record Whole (before after : List ℕ) (answered : ℕ) (text : List ℕ) : Type 0 where
-  pub all : answered ≡ length text
+  pub end : answered ≡ length text
   pub content : after ≡ text ++ drop (length text) before

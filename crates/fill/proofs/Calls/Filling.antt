@@ -44,7 +44,7 @@ use Rattle.fill.proofs.Descents.LevelsBelow.{room-first}
 use Rattle.fill.proofs.Counting.LinkPairs.{counts-below, end-below}
 use Rattle.fill.proofs.Descents.TreeDescent.{entriesOf, partsOf, trace-bytes, counts-bytes, entry-levels}
 use Rattle.fill.proofs.Room.RegionRoom.{Rows, roomy-filled}
-use Rattle.fill.proofs.Room.LinksRoom.{links-room}
+use Rattle.fill.proofs.Room.LinksRoom.{linksLimit, links-room}
 
 -- the cells of each level, by the links below level 0
 counts-traced : (n : ℕ) (fs : List (Tree Row n)) → counts true n (fill true n fs) ≡ map differing (linksBelow n (partsOf fs))
@@ -97,7 +97,7 @@ module _ {n : ℕ} (fs : List (Tree Row n)) (small : n ≤ mostVariables) (few :
   trace-size = omega (sizes, length-links (allLinks (trace true n fs)), links-room n fs small few)
 
   -- below level 0 there are no more
-  links-few : length (allLinks (linksBelow n (partsOf fs))) ≤ 4350
+  links-few : length (allLinks (linksBelow n (partsOf fs))) ≤ linksLimit
   links-few =
       let y = allLinks (linksBelow n (partsOf fs)) in
       omega (

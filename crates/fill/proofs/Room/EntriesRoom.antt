@@ -14,7 +14,7 @@ use Rattle.diagram.specs.Network.{normal}
 use Rattle.diagram.proofs.Bools.{split, of-T, to-T}
 use Rattle.diagram.proofs.Lists.{all-has, all-map, map-has}
 use Rattle.diagram.proofs.Tree.{same-equality, normal-normal, varies}
-use Rattle.diagram.proofs.Fill.{Along, new, met, next, Joined, fixed, placed, candidate-view, filled-length}
+use Rattle.diagram.proofs.Fill.{Along, new, met, next, Joined, fixed, linked, candidate-view, filled-length}
 use Rattle.diagram.proofs.FirstSeen.{varies-inverted}
 use Rattle.diagram.proofs.Apart.{apart-filled, varied-filled}
 use Rattle.diagram.proofs.Enumerate.{classes-of-varied}
@@ -30,7 +30,7 @@ along-room (next m r) = suc-le-suc (along-room r)
 joined-room : {d : ℕ} {inv : Bool} {f : Tree Row d} {gs es : List (Tree Row d)} {l : Link} → Joined inv f gs l es
     → length es ≤ suc (length gs)
 joined-room (fixed v t) = le-suc _
-joined-room (placed n r) = along-room r
+joined-room (linked n r) = along-room r
 
 pub candidate-room : {d : ℕ} (inv : Bool) (f : Tree Row d) (gs : List (Tree Row d))
     → length (candidate inv f gs .entries) ≤ suc (length gs)

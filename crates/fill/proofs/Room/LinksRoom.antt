@@ -49,12 +49,18 @@ links-bounded (suc d) fs =
       mostLinks-mono d most,
     ))
 
--- the bound at sixteen outputs, computed for each number of variables up to ten
-rooms-hold : T (all (λ n. leb (mostLinks n 16) 4350) (upTo 11))
+-- the links of the largest table
+abbrev pub linksLimit : ℕ
+linksLimit = 4350
+
+-- the bound at the most outputs, computed for each number of variables up to the largest
+rooms-hold : T (all (λ n. leb (mostLinks n mostOutputs) linksLimit) (upTo (suc mostVariables)))
 unfolding mostLinks
 rooms-hold = tt
 
-pub links-room : (n : ℕ) (fs : List (Tree Row n)) → n ≤ mostVariables → length fs ≤ mostOutputs → length (allLinks (trace true n fs)) ≤ 4350
+pub links-room : (n : ℕ) (fs : List (Tree Row n)) → n ≤ mostVariables → length fs ≤ mostOutputs
+    → length (allLinks (trace true n fs)) ≤ linksLimit
 links-room n fs h k =
     le-trans (le-trans (links-bounded n fs) (mostLinks-mono n k))
-    (leb→le (mostLinks n 16) 4350 (all-upTo-at (λ i. leb (mostLinks i 16) 4350) 11 rooms-hold n (suc-le-suc h)))
+    (leb→le (mostLinks n mostOutputs) linksLimit
+    (all-upTo-at (λ i. leb (mostLinks i mostOutputs) linksLimit) (suc mostVariables) rooms-hold n (suc-le-suc h)))

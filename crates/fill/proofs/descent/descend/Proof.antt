@@ -36,8 +36,8 @@ loop-holds c =
 abbrev begun : tie.In-loop Inv-loop μ-loop → tie.Start Inv-loop μ-loop
 begun c = c .before .before .before
 
-abbrev all : tie.In-loop Inv-loop μ-loop → List (List ℕ)
-all c =
+abbrev top : tie.In-loop Inv-loop μ-loop → List (List ℕ)
+top c =
     let a = begun c .args in
     partsAt (a .n) (a .count) 0 (now (a .work))
 
@@ -49,19 +49,19 @@ first c =
 down : (c : tie.In-loop Inv-loop μ-loop)
     → let a = begun c .args in
     let l = c .before .loop in
-    Going (a .n) (all c) (first c) (now (a .work)) (suc (l .d - 1)) (l .from) (l .at) (l .k) (l .work) (l .entries)
+    Going (a .n) (top c) (first c) (now (a .work)) (suc (l .d - 1)) (l .from) (l .at) (l .k) (l .work) (l .entries)
 down c =
     let a = begun c .args in
     let l = c .before .loop in
     let e : l .d ≡ suc (l .d - 1) = omega sizes in
-    subst (λ (d : ℕ). Going (a .n) (all c) (first c) (now (a .work)) d (l .from) (l .at) (l .k) (l .work) (l .entries)) e (l .inv .1)
+    subst (λ (d : ℕ). Going (a .n) (top c) (first c) (now (a .work)) d (l .from) (l .at) (l .k) (l .work) (l .entries)) e (l .inv .1)
 
 -- the links end within the work buffer
 links-fit : (c : tie.In-loop Inv-loop μ-loop) → c .before .loop .at + 4 * c .before .loop .k ≤ length (c .before .loop .work)
 links-fit c =
     let s = begun c in
     let l = c .before .loop in
-    going-asks (s .args .n) (all c) (first c) (now (s .args .work)) (s .pre .0 .2) (l .d - 1) (l .from) (l .at) (l .k) (l .work)
+    going-asks (s .args .n) (top c) (first c) (now (s .args .work)) (s .pre .0 .2) (l .d - 1) (l .from) (l .at) (l .k) (l .work)
     (l .entries) (down c)
     (l .inv .2) .1 .0 .2
 
@@ -85,7 +85,7 @@ level-below-requires c κs =
     let i = c .before in
     let l = i .before .loop in
     let s = begun i in
-    let t = going-asks (s .args .n) (all i) (first i) (now (s .args .work)) (s .pre .0 .2)
+    let t = going-asks (s .args .n) (top i) (first i) (now (s .args .work)) (s .pre .0 .2)
     (l .d - 1) (l .from) (l .at) (l .k) (l .work) (l .entries) (down i)
     (l .inv .2) in
     (omega (sizes, s .pre .0 .0), (t .0, (t .1 .0, t .1 .1)))
@@ -106,7 +106,7 @@ loop-again c =
     let s = begun i in
     let r = c .before .before .level-below in
     let e : s .args .n - l .d ≡ s .args .n - suc (l .d - 1) = omega sizes in
-    let g = going-on (s .args .n) (all i) (first i) (now (s .args .work)) (s .pre .0 .2)
+    let g = going-on (s .args .n) (top i) (first i) (now (s .args .work)) (s .pre .0 .2)
     (l .d - 1) (l .from) (l .at) (l .k) (l .work) (l .entries) (down i)
     (r .result) (r .last .1 .1 .1 .1 .1 .0) (set (l .entries) (s .args .n - l .d) (l .k)) (s .pre .0 .0) (r .ensures .0) (r .ensures .1)
     (ap (λ (j : ℕ). set (l .entries) j (l .k)) e) in
@@ -122,10 +122,10 @@ returns c =
     let a = s .args in
     let w = now (a .work) in
     let e : l .d ≡ 0 = omega sizes in
-    let all = partsAt (a .n) (a .count) 0 w in
+    let parts = partsAt (a .n) (a .count) 0 w in
     let first = linksUpTo (a .links) w in
-    let g = subst (λ (d : ℕ). Going (a .n) all first w d (l .from) (l .at) (l .k) (l .work) (l .entries)) e (l .inv .1) in
-    going-last (a .n) all first w (s .pre .0 .2) (l .from) (l .at) (l .k) (l .work) (l .entries) g
+    let g = subst (λ (d : ℕ). Going (a .n) parts first w d (l .from) (l .at) (l .k) (l .work) (l .entries)) e (l .inv .1) in
+    going-last (a .n) parts first w (s .pre .0 .2) (l .from) (l .at) (l .k) (l .work) (l .entries) g
 
 pub descend-spec : {M : Type 1} → statement M
 descend-spec =

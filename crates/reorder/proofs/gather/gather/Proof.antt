@@ -47,7 +47,7 @@ gather-byte-requires c κs =
     let h = byte-within (s .args .n) (c .before .loop .i) (omega arith) in
     (omega (arith, min-le-left 8 (2 ^ s .args .n)), omega (arith, s .pre), s .pre .0 .1)
 
--- the byte that is written is within the partidate
+-- the byte that is written is within the part
 inside : (c : tie.In-loop Inv-loop μ-loop)
     → c .before .before .before .before .before .before .before .args .at + c .before .loop .i
     < length (now (c .before .before .before .before .before .before .before .args .part))
