@@ -2,6 +2,7 @@
 pub mod cared;
 mod file;
 pub mod load;
+pub mod numbers;
 pub mod order;
 pub mod swap;
 pub mod valid;

@@ -1,6 +1,4 @@
 // The lines that programs print: a word and a number, a call's answer, an order.
-use crate::answer::number_of;
-use crate::answer::value_of;
 use crate::put::NEWLINE;
 use crate::put::put_byte;
 use crate::put::put_line;
@@ -9,6 +7,8 @@ use crate::put::put_word;
 use diagram::VARIABLES;
 use table::Answer;
 use table::State;
+use table::numbers::number_of;
+use table::numbers::value_of;
 ghost use Prim.Native.Nat.{_≤_, min};
 ghost use mathlib.Core.Path.{_≡_};
 ghost use lib.ListN.{length, getD};

@@ -1,7 +1,7 @@
 // Document 01's number and value of an answer.
-use table::Answer;
+use crate::Answer;
 ghost use mathlib.Core.Path.{_≡_};
 ghost use Rattle.table.specs.Answer.{number, value};
 
 // The number of the paper's tables; 0 of a success.
 pub fn number_of(answer: Answer) -> usize
