@@ -26,7 +26,7 @@ use Rattle.network.specs.Lent.{lentDiagram, rootsSize}
 use Rattle.network.specs.inner.Cells.{lentCells, Followable, Rooted, outputAt}
 use Rattle.network.specs.Evaluate.{goodCells, rowOutputs, evaluateAnswer}
 
-network-held : (t : Stage) → T (isNetwork t) → T (not (isNothing t))
+pub network-held : (t : Stage) → T (isNetwork t) → T (not (isNothing t))
 network-held Nothing h = h
 network-held AtTable h = tt
 network-held Network h = tt

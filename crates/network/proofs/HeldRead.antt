@@ -96,12 +96,17 @@ module _ (s : State) (values care : List ℕ) where
     pub room : length (allLinks kss) ≤ linksLimit
     room = links-room (s .n) drawn (few-inputs s held) (subst (λ k. k ≤ mostOutputs) (sym drawn-length) (few-outputs s held))
 
-    pub few-wanted : wanted s values care ≤ mostNodes
-    unfolding wanted cost
-    few-wanted =
-        let ts = filled true (heldTable s values care) (orderOf s) in
-        most (s .n) ts (few-inputs s held) (subst (λ k. k ≤ mostOutputs) (sym (filled-length true (heldTable s values care) (orderOf s)))
+    -- no order costs more than the most nodes there can be
+    pub few-nodes : (order : List ℕ) → cost (heldTable s values care) order ≤ mostNodes
+    unfolding cost
+    few-nodes order =
+        let ts = filled true (heldTable s values care) order in
+        most (s .n) ts (few-inputs s held) (subst (λ k. k ≤ mostOutputs) (sym (filled-length true (heldTable s values care) order))
         (few-outputs s held))
+
+    pub few-wanted : wanted s values care ≤ mostNodes
+    unfolding wanted
+    few-wanted = few-nodes (orderOf s)
 
     sized : Sized (s .m) heldEntries heldCounts 0 lss
     sized =

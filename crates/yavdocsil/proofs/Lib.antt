@@ -1,0 +1,4 @@
+pub mod StateWords
+pub mod AnswerWords
+pub mod SmallValues
+pub mod Calling
