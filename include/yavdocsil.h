@@ -1,0 +1,94 @@
+/* Yavdocsil for C: a truth table with don't-cares becomes the smallest network of two-way selectors.
+ *
+ * A slice passes as a pointer and a length in elements. Lent slices don't overlap, and all of a slice is memory of the caller's.
+ * What is too short, wrong or out of place is answered with a number, and nothing but what is said here is written:
+ * a refusal leaves the state and every buffer as they were, except that YAV_TOO_SMALL leaves the work buffer zero.
+ *
+ * No call keeps anything between calls: a table is its state and its buffers, and each thread can have its own. */
+#ifndef YAVDOCSIL_H
+#define YAVDOCSIL_H
+
+#include <stddef.h>
+#include <stdint.h>
+
+#ifdef __cplusplus
+extern "C" {
+#endif
+
+/* How many elements a call needs of each buffer. More is fine: the rest is neither used nor changed. */
+enum {
+    YAV_STATE_WORDS = 40,
+    YAV_TABLE_BYTES = 2048, /* values, and care: the drawn bits, and which of them are cared */
+    YAV_WORK_BYTES = 32768, /* zero after each success */
+    YAV_ROOTS = 16,
+    YAV_MOST_CELLS = 2159 /* no table needs more; a cell takes three elements: place, 0-arrow, 1-arrow */
+};
+
+/* Where the state's words stand. Words not named are never read or changed. Start with all words zero. */
+enum {
+    YAV_INPUTS = 0,
+    YAV_OUTPUTS = 1,
+    YAV_COUNT = 2, /* the cells of the network held */
+    YAV_STAGE = 3, /* 0 nothing, 1 table, 2 network; any other counts as 0 */
+    YAV_ORDER = 8  /* the input at each place, the top place first: ten words */
+};
+
+/* The number of an answer. */
+enum {
+    YAV_DONE = 0,
+    YAV_BAD_LENGTH = 1,
+    YAV_BAD_CHECK = 2,
+    YAV_BAD_KIND = 3,
+    YAV_BAD_INPUTS = 4,
+    YAV_BAD_OUTPUTS = 5,
+    YAV_BAD_ORDER = 6,
+    YAV_BAD_CONTENT = 7,
+    YAV_NO_ROW = 8,
+    YAV_NO_SUCH = 9,        /* no such input, or no two places to swap there */
+    YAV_SHORT_BUFFER = 10,  /* a state of fewer than 40 words too, before all else */
+    YAV_NO_TABLE = 21,
+    YAV_NO_NETWORK = 22,
+    YAV_TOO_SMALL = 23,     /* the value is the cells wanted */
+    YAV_BAD_CELLS = 24
+};
+
+/* An answer is its number × 2³² + its value. */
+static inline uint32_t yav_number(uint64_t answer) { return (uint32_t)(answer >> 32); }
+static inline uint32_t yav_value(uint64_t answer) { return (uint32_t)answer; }
+
+/* Reads a table file into values and care. Numbers 10, and 1 to 7. */
+uint64_t yav_load(uint64_t *state, size_t state_words, const uint8_t *file, size_t file_bytes,
+                  uint8_t *values, size_t values_bytes, uint8_t *care, size_t care_bytes);
+
+/* The number of cared bits in the table. Numbers 10, 21. */
+uint64_t yav_cared(const uint64_t *state, size_t state_words, const uint8_t *care, size_t care_bytes);
+
+/* The cells that the table's network takes, whatever the board. Numbers 10, 21. */
+uint64_t yav_count(const uint64_t *state, size_t state_words, const uint8_t *values, size_t values_bytes,
+                   const uint8_t *care, size_t care_bytes, uint8_t *work, size_t work_bytes);
+
+/* Builds the table's network, the smallest there is, in roots and cells, and answers its cells. Numbers 10, 21, 23. */
+uint64_t yav_build(uint64_t *state, size_t state_words, const uint8_t *values, size_t values_bytes,
+                   const uint8_t *care, size_t care_bytes, uint8_t *work, size_t work_bytes,
+                   uint16_t *roots, size_t roots_elements, uint16_t *cells, size_t cells_elements);
+
+/* What the network gives at a row: bit j is output j. It tests the cells first. Numbers 10, 22, 8, 24. */
+uint64_t yav_evaluate(const uint64_t *state, size_t state_words, uint64_t row,
+                      const uint16_t *roots, size_t roots_elements, const uint16_t *cells, size_t cells_elements);
+
+/* Exchanges the inputs at `place` and the place below it. Numbers 10, 21, 9. */
+uint64_t yav_swap(uint64_t *state, size_t state_words, uint64_t place);
+
+/* Moves one input to the place where the network takes the fewest cells, and answers those. Numbers 10, 21, 9. */
+uint64_t yav_sift(uint64_t *state, size_t state_words, uint64_t input, const uint8_t *values, size_t values_bytes,
+                  const uint8_t *care, size_t care_bytes, uint8_t *work, size_t work_bytes);
+
+/* Sifts each input once, as far as a limit of orders allows, and answers the orders tried. Numbers 10, 21. */
+uint64_t yav_pass(uint64_t *state, size_t state_words, uint32_t limit, const uint8_t *values, size_t values_bytes,
+                  const uint8_t *care, size_t care_bytes, uint8_t *work, size_t work_bytes);
+
+#ifdef __cplusplus
+}
+#endif
+
+#endif
