@@ -1,0 +1,220 @@
+"""The calls of the comparison, in chunks.
+
+A chunk is made from the seed and its number alone, so that one can be run
+again by itself. The first chunks are the fixed ones, the others are random
+scenes: single calls, chains of calls on the same state and buffers, files,
+boards, diagrams and larger tables.
+
+A chunk is a generator. What a call is lent is changed by that call before the
+next one is made, so that a chain meets the leftovers of its own calls.
+"""
+
+import itertools
+import random
+
+import cases
+import diagrams
+import files
+import fixed_calls
+import lending
+import library
+import reference
+import refusals
+from library import Call
+
+CALLS_IN_CHUNK = 100
+FIXED_CHUNKS = len(fixed_calls.CHUNKS)
+
+
+def small_size(rng):
+    n = rng.choices(range(6), (1, 2, 4, 5, 5, 2))[0]
+    return n, rng.choice((1, 1, 2, 2, 3, rng.randint(1, 16 if n < 4 else 5)))
+
+
+def lend_board(rng, lent):
+    lent.lengths["cells"] = lending.board_near(rng, lending.cost_of(lent))
+
+
+def lend_counted(rng, lent):
+    """The counted cells and little more, now and then with the last one ragged."""
+    count = lent.contents["state"][library.COUNT]
+    length = 3 * min(count, lending.SMALL_BOARD // 3) + rng.choice((0, 0, 1, 2, 3, 9, -1))
+    lent.lengths["cells"] = max(0, length)
+
+
+def single(rng):
+    """One call at a start of its own, with no, one or several refusals due."""
+    name = rng.choice(list(library.CALLS))
+    call = refusals.sound_call(rng, name, *small_size(rng))
+    if name == "build":
+        lend_board(rng, call.lent)
+    if name == "evaluate":
+        lend_counted(rng, call.lent)
+    due = rng.choices(range(4), (70, 15, 10, 5))[0]
+    kinds = refusals.kinds_of(name)
+    refusals.spoil_all(rng, call, rng.sample(kinds, min(due, len(kinds))))
+    yield call
+
+
+def some_file(rng):
+    """Of any size: sound, damaged, or with random content in sound frames."""
+    n, m = small_size(rng)
+    if rng.random() < 0.1:
+        n, m = rng.choice((0, 8, 9, 10)), rng.choice((1, 4, 15, 16))
+    file = cases.random_table(rng, n, m)
+    choice = rng.random()
+    if choice < 0.35:
+        return file
+    if choice < 0.9:
+        return refusals.damaged_file(rng, file)
+    blocks = files.blocks_of(file)
+    for number in rng.sample(range(len(blocks)), rng.choice((1, len(blocks)))):
+        blocks[number] = files.with_check(blocks[number][:4] + rng.randbytes(508))
+    return b"".join(blocks)
+
+
+def loads(rng):
+    """Several files into the same state and buffers."""
+    lent = lending.lent_for(rng, *small_size(rng))
+    for _ in range(6):
+        lending.lend_file(rng, lent, some_file(rng))
+        call = Call("load", {}, lent, "files one after the other")
+        lending.lengthen(rng, lent)
+        if rng.random() < 0.1:
+            refusals.spoil(rng, call, rng.choice(("state", "values", "care", refusals.WORDS)))
+        yield call
+
+
+def boards(rng):
+    """Builds with each board around the count, and every ragged end."""
+    lent = lending.lent_for(rng, *small_size(rng))
+    count = lending.cost_of(lent)
+    lengths = {0, 1, 2} | {3 * count + more for more in range(-3, 6)}
+    for length in sorted(lengths):
+        if length >= 0:
+            lent.contents["work"] = lending.dirty(rng, "work", len(lent.contents["work"]))
+            lent.lengths["cells"] = length
+            yield Call("build", {}, lent, f"a board around {count}")
+
+
+def diagram_calls(rng):
+    """Evaluations of one diagram: many rows, then breaches of it."""
+    n, m = small_size(rng)
+    lent = lending.lent_for(rng, n, m)
+    cells, roots = diagrams.random_diagram(rng, n, m)
+    lending.lend_diagram(lent, cells, roots)
+    for _ in range(6):
+        lend_counted(rng, lent)
+        yield Call("evaluate", lending.numbers_near(rng, "evaluate", n), lent, "any diagram")
+    for _ in range(4):
+        lending.lend_diagram(lent, cells, roots)
+        rng.choice((refusals.break_lent_diagram, refusals.lend_too_few_cells))(rng, lent)
+        yield Call("evaluate", {"row": rng.randrange(2**n)}, lent, "a diagram with a breach")
+
+
+# Chains.
+
+
+def holds(lent):
+    """The stage that the state comes to, its words as they are."""
+    return reference.stage_of(library.state_from(lent.contents["state"]))
+
+
+def next_name(rng, lent):
+    """Mostly a call that is not refused for the stage."""
+    if holds(lent) == reference.NOTHING and rng.random() < 0.6:
+        return "load"
+    if holds(lent) == reference.NETWORK and rng.random() < 0.5:
+        return "evaluate"
+    names = ["load", "cared", "count", "build", "build", "evaluate", "swap", "swap"]
+    return rng.choice(names + ["sift", "pass"])
+
+
+def meddle(rng, lent):
+    """What a caller may do between two calls."""
+    choice = rng.random()
+    if choice < 0.2:
+        lent.contents["work"] = lending.dirty(rng, "work", len(lent.contents["work"]))
+    elif choice < 0.25:
+        lending.broken_state(rng, lent.contents["state"])
+    elif choice < 0.3:
+        name = rng.choice(("cells", "roots", "values", "care"))
+        at = rng.randrange(min(30, len(lent.contents[name])))
+        lent.contents[name][at] = rng.randrange(8)
+    elif choice < 0.35 and holds(lent) != reference.NOTHING:
+        lending.write_planes(rng, lent, *lent.contents["state"][: library.M + 1])
+
+
+def next_call(rng, lent, note):
+    """One more call on what the last one left."""
+    lending.lengthen(rng, lent)
+    lent.lengths["cells"] = lending.SMALL_BOARD
+    name = next_name(rng, lent)
+    if name == "load":
+        file = cases.random_table(rng, *small_size(rng))
+        damaged = rng.random() < 0.2
+        lending.lend_file(rng, lent, refusals.damaged_file(rng, file) if damaged else file)
+    if name == "evaluate" and rng.random() < 0.5:
+        lend_counted(rng, lent)
+    if name == "build" and holds(lent) != reference.NOTHING and rng.random() < 0.4:
+        lend_board(rng, lent)
+    n = min(lent.contents["state"][library.N], reference.ORDER_ENTRIES)
+    call = Call(name, lending.numbers_near(rng, name, n), lent, note)
+    if rng.random() < 0.08:
+        buffers = [each for each in library.slices_of(name) if each in lending.SIZES]
+        refusals.spoil(rng, call, rng.choice(buffers))
+    return call
+
+
+def chain(rng):
+    """The same state and buffers through many calls."""
+    lent = lending.lent_for(rng, *small_size(rng))
+    length = rng.randint(8, 25)
+    for step in range(length):
+        yield next_call(rng, lent, f"step {step + 1} of a chain")
+        meddle(rng, lent)
+
+
+# Larger tables: as much as the reference does in well under a second, so that a
+# sift or pass has so many bits in all the tables it tries.
+MOST_BITS_TRIED = 40 * 1024
+
+
+def large(rng):
+    n = rng.choices(range(6, 11), (6, 5, 4, 3, 2))[0]
+    m = rng.choice((1, 1, 2, 3, 5, rng.randint(1, 16)))
+    lent = lending.lent_for(rng, n, m, lending.LARGEST_BOARD)
+    lending.lend_file(rng, lent, cases.random_table(rng, n, m))
+    names = ["load", "cared", "build"] + ["evaluate"] * 5 + ["build", "swap", "count", "build"]
+    names += ["evaluate"] * 3
+    if n * m * 2**n <= MOST_BITS_TRIED:
+        names += ["sift", "build", "evaluate"]
+    if n * n * m * 2**n <= MOST_BITS_TRIED:
+        names += ["pass", "build", "evaluate"]
+    for name in names:
+        lent.lengths["cells"] = lending.LARGEST_BOARD
+        if name == "build" and rng.random() < 0.3:
+            lend_board(rng, lent)
+        yield Call(name, lending.numbers_near(rng, name, n), lent, "a larger table")
+
+
+SCENES = {single: 70, loads: 8, boards: 4, diagram_calls: 9, chain: 14, large: 2}
+
+
+def random_calls(rng):
+    scenes, shares = list(SCENES), list(SCENES.values())
+    while True:
+        yield from rng.choices(scenes, shares)[0](rng)
+
+
+def chunk_count(calls):
+    """So many chunks that at least `calls` calls are made."""
+    return FIXED_CHUNKS + -(-calls // CALLS_IN_CHUNK)
+
+
+def chunk_calls(seed, number):
+    """The calls of one chunk; each is to be run before the next is asked for."""
+    rng = random.Random(f"{seed} {number}")
+    if number < FIXED_CHUNKS:
+        return fixed_calls.CHUNKS[number](rng)
+    return itertools.islice(random_calls(rng), CALLS_IN_CHUNK)

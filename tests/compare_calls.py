@@ -1,0 +1,225 @@
+"""Compares every call of the shared library with the reference.
+
+    python3 tests/compare_calls.py --library PATH [--seed S] [--calls N]
+
+Each call is made once on the library and once on the reference, on copies of
+the same state words and buffers. The answer, every word of the state and every
+element of each buffer must be the same, also past what is lent. A difference
+is shown with its seed and chunk, and the exit status is 1; a chunk ends at its
+first difference. So it is too if a number that a call can give never came up.
+`--only CHUNK` runs one chunk again; `--first` ends at the first difference;
+`--skip-fixed` leaves out the chunks of fixed calls.
+"""
+
+import argparse
+import faulthandler
+import multiprocessing
+import os
+import sys
+from collections import Counter, namedtuple
+from concurrent.futures import ProcessPoolExecutor
+from concurrent.futures.process import BrokenProcessPool
+
+import calls
+import library
+import reference
+import show_calls
+
+WORKERS = 2
+MOST_SHOWN = 3
+# A call that never ends would hold up all; the worker then ends as in a crash.
+SECONDS_IN_CHUNK = 40
+
+# The numbers that the paper lets each call give.
+POSSIBLE = {
+    "load": (0, 1, 2, 3, 4, 5, 6, 7, 10), "cared": (0, 10, 21), "count": (0, 10, 21),
+    "build": (0, 10, 21, 23), "evaluate": (0, 8, 10, 22, 24), "swap": (0, 9, 10, 21),
+    "sift": (0, 9, 10, 21), "pass": (0, 10, 21),
+}
+
+# `calls` were compared; `given` counts (call, number); `text` shows a difference.
+Result = namedtuple("Result", "chunk calls given text")
+
+# For each chunk the call that is being made, 0 before and after: in shared
+# memory, so that it is known when a worker is no more.
+begun = None
+
+
+def share(array):
+    global begun
+    begun = array
+
+
+def function_of(name):
+    """The reference has the same names, but `pass` is a word of Python."""
+    return getattr(reference, "sift_pass" if name == "pass" else name)
+
+
+def by_reference(call, lent):
+    """The answer by the paper; `lent` is changed as the paper says."""
+    words = lent.contents["state"]
+    if lent.lengths["state"] < library.STATE_WORDS:
+        return 10, 0
+    state = library.state_from(words)
+    buffers = [name for name in library.slices_of(call.name) if name != "state"]
+    parts = {name: lent.part(name) for name in buffers}
+    given = {**parts, **call.numbers, "state": state}
+    arguments = [given[name] for name in library.arguments_of(call.name)]
+    answer = function_of(call.name)(*arguments)
+    for name, part in parts.items():
+        lent.write_part(name, part)
+    library.write_state(words, state)
+    return answer
+
+
+def wanted_answer(call, lent):
+    """A reference that breaks off is told as an answer that no call gives."""
+    try:
+        return by_reference(call, lent)
+    except (ArithmeticError, LookupError, TypeError, ValueError) as error:
+        return "the reference broke off", repr(error)
+
+
+def run_call(opened, call):
+    """The wanted answer, and the text of the difference or None."""
+    names = library.slices_of(call.name)
+    before, wanted = call.lent.copy(names), call.lent.copy(names)
+    wanted_pair = wanted_answer(call, wanted)
+    came_pair = opened.call(call.name, call.numbers, call.lent)
+    alike = all(wanted.contents[name] == call.lent.contents[name] for name in names)
+    if wanted_pair == came_pair and alike:
+        return wanted_pair, None
+    answers = wanted_pair, came_pair
+    return wanted_pair, show_calls.difference_text(call, before, wanted, answers)
+
+
+def run_chunk(job):
+    """In a worker: all calls of a chunk, or those up to a difference."""
+    seed, chunk, path = job
+    faulthandler.dump_traceback_later(SECONDS_IN_CHUNK, exit=True)
+    opened = library.Library(path)
+    done, given, text = 0, Counter(), None
+    for done, call in enumerate(calls.chunk_calls(seed, chunk), 1):
+        begun[chunk] = done
+        (number, _), text = run_call(opened, call)
+        given[call.name, number] += 1
+        if text:
+            text = f"difference: seed {seed}, chunk {chunk}, call {done}\n{text}"
+            break
+    begun[chunk] = 0
+    faulthandler.cancel_dump_traceback_later()
+    return Result(chunk, done, given, text)
+
+
+def run_all(jobs, until_first):
+    """The results in the sequence of the chunks."""
+    results = []
+    with ProcessPoolExecutor(WORKERS, initializer=share, initargs=(begun,)) as workers:
+        for result in workers.map(run_chunk, jobs):
+            results.append(result)
+            if until_first and result.text:
+                workers.shutdown(wait=False, cancel_futures=True)
+                break
+    return results
+
+
+# Crashes.
+
+
+def call_at(seed, chunk, index):
+    """The call of that number, made again with the reference alone."""
+    for number, call in enumerate(calls.chunk_calls(seed, chunk), 1):
+        if number == index:
+            return call
+        by_reference(call, call.lent)
+
+
+def run_alone(array, job):
+    share(array)
+    run_chunk(job)
+
+
+def show_crashes(seed, path):
+    """Each chunk that was left unfinished is run again, in a process of its own."""
+    unfinished = [chunk for chunk in range(len(begun)) if begun[chunk]]
+    print(f"crash: a worker ended in the midst of one of the chunks {unfinished}", flush=True)
+    for chunk in unfinished:
+        job = seed, chunk, path
+        process = multiprocessing.Process(target=run_alone, args=(begun, job))
+        process.start()
+        process.join()
+        if process.exitcode == 0:
+            continue
+        index = begun[chunk]
+        print(f"crash, status {process.exitcode}: seed {seed}, chunk {chunk}, call {index}")
+        call = call_at(seed, chunk, index)
+        print(show_calls.call_text(call, call.lent))
+
+
+# The numbers that came up.
+
+
+def print_table(given):
+    numbers = sorted({number for _, number in given if isinstance(number, int)})
+    print("call     " + "".join(f"{number:>7}" for number in numbers))
+    for name in library.CALLS:
+        counts = [str(given[name, number] or "") for number in numbers]
+        print(f"{name:9}" + "".join(f"{count:>7}" for count in counts))
+
+
+def wrong_numbers(given):
+    """What a call can give but never gave, and what it gave but cannot."""
+    wrong = []
+    for name in library.CALLS:
+        came = {number for each, number in given if each == name}
+        wrong += [f"{name} never gave {number}" for number in POSSIBLE[name] if number not in came]
+        wrong += [f"{name} gave {number}" for number in came if number not in POSSIBLE[name]]
+    return wrong
+
+
+def arguments():
+    parser = argparse.ArgumentParser(description=__doc__.splitlines()[0])
+    parser.add_argument("--library", required=True, help="the shared library's path")
+    parser.add_argument("--seed", type=int, default=1)
+    parser.add_argument("--calls", type=int, default=100000, help="random calls")
+    parser.add_argument("--only", type=int, metavar="CHUNK", help="the one chunk to run")
+    parser.add_argument("--first", action="store_true", help="end at the first difference")
+    parser.add_argument("--skip-fixed", action="store_true", help="random calls alone")
+    return parser.parse_args()
+
+
+def chunks_of(given):
+    if given.only is not None:
+        return range(given.only, given.only + 1)
+    first = calls.FIXED_CHUNKS if given.skip_fixed else 0
+    return range(first, calls.chunk_count(given.calls))
+
+
+def main():
+    given = arguments()
+    path = os.path.abspath(given.library)
+    if not os.path.isfile(path):
+        sys.exit(f"no library at {path}")
+    chunks = chunks_of(given)
+    share(multiprocessing.RawArray("L", chunks.stop))
+    try:
+        results = run_all([(given.seed, chunk, path) for chunk in chunks], given.first)
+    except BrokenProcessPool:
+        show_crashes(given.seed, path)
+        sys.exit("the library crashed, or a call did not end")
+    # The shortest come first, since they are the easiest to follow.
+    differences = sorted((result.text for result in results if result.text), key=len)
+    for text in differences[:MOST_SHOWN]:
+        print(text)
+    numbers = sum((result.given for result in results), Counter())
+    print_table(numbers)
+    wrong = [] if differences or given.only is not None else wrong_numbers(numbers)
+    for line in wrong:
+        print(line)
+    total = sum(result.calls for result in results)
+    print(f"compared {total} calls, {len(differences)} differences")
+    sys.exit(1 if differences or wrong else 0)
+
+
+if __name__ == "__main__":
+    main()

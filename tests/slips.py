@@ -1,0 +1,89 @@
+"""Tries the comparison of the calls on deliberate slips.
+
+    python3 tests/slips.py --library PATH [--seed S] [--skip-fixed]
+
+Each slip is made in a copy of reference.py, in a folder of its own with the
+other files, and the comparison there must find a difference. A line says after
+how many calls, counted in the sequence of the chunks. The exit status is 1 if
+one slip is not found. Run by hand: when the calls of the comparison change.
+`--skip-fixed` leaves the fixed calls out, to see what the random ones find.
+"""
+
+import argparse
+import os
+import re
+import shutil
+import subprocess
+import sys
+import tempfile
+from pathlib import Path
+
+from slip_list import SLIPS
+
+HERE = Path(__file__).resolve().parent
+LAST_LINE = re.compile(r"compared (\d+) calls, (\d+) differences")
+# The line of a difference that tells where it is.
+PLACE = re.compile(r"^  (\w+): \d+ differ,", re.MULTILINE)
+ANSWER = re.compile(r"^  answer: expected (.*), came (.*)$", re.MULTILINE)
+
+
+def edited(text, old, new):
+    found = text.count(old)
+    if found != 1 or old == new:
+        raise ValueError(f"a slip's text stands {found} times in the reference: {old!r}")
+    return text.replace(old, new)
+
+
+def make_copy(folder, old, new):
+    for file in HERE.glob("*.py"):
+        shutil.copy(file, folder)
+    slipped = Path(folder) / "reference.py"
+    slipped.write_text(edited(slipped.read_text(), old, new))
+
+
+def places_in(shown):
+    """What differed in the first difference: the answer, or which buffers."""
+    wanted, came = ANSWER.search(shown).groups()
+    places = [f"answer {wanted} for {came}"] if wanted != came else []
+    return ", ".join(places + PLACE.findall(shown))
+
+
+def run_slip(slip, given):
+    """Whether a difference was found, and after how many calls and where."""
+    _, old, new = slip
+    with tempfile.TemporaryDirectory() as folder:
+        make_copy(folder, old, new)
+        command = [sys.executable, f"{folder}/compare_calls.py", "--first"]
+        command += ["--library", given.library, "--seed", str(given.seed)]
+        command += ["--skip-fixed"] if given.skip_fixed else []
+        run = subprocess.run(command, capture_output=True, text=True)
+    ended = LAST_LINE.search(run.stdout)
+    if ended is None:
+        return False, "the comparison broke off: " + run.stderr.strip().split("\n")[-1]
+    total, differences = ended.groups()
+    if run.returncode != 1 or differences == "0":
+        return False, f"not found in {total} calls"
+    return True, f"found after {total} calls ({places_in(run.stdout)})"
+
+
+def arguments():
+    parser = argparse.ArgumentParser(description=__doc__.splitlines()[0])
+    parser.add_argument("--library", required=True, type=os.path.abspath)
+    parser.add_argument("--seed", type=int, default=1)
+    parser.add_argument("--skip-fixed", action="store_true", help="random calls alone")
+    return parser.parse_args()
+
+
+def main():
+    given = arguments()
+    missed = 0
+    for slip in SLIPS:
+        found, told = run_slip(slip, given)
+        missed += not found
+        print(f"{slip[0]}: {told}", flush=True)
+    print(f"{len(SLIPS)} slips, {missed} not found")
+    sys.exit(1 if missed else 0)
+
+
+if __name__ == "__main__":
+    main()
