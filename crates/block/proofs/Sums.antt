@@ -1,9 +1,12 @@
 -- Sums of a function's values at 0 to k - 1.
 -- Assumes nothing.
 use mathlib.Core.Path.{_≡_, refl, sym, ap, ap₂, _∙_}
+use mathlib.Core.Bool.{Bool}
 use Prim.Native.Nat.{ℕ, zero, suc, _+_, _-_, _≤_, _<_, min}
 use native.Mathlib.Nat.{add-zero, add-assoc}
 use native.Mathlib.Omega.{arith}
+use Rattle.diagram.specs.Lists.{digit}
+use Rattle.diagram.proofs.Bits.{digit-le}
 use Rattle.block.specs.Bits.{sumBelow}
 
 pub sum-cong : (f g : ℕ → ℕ) (k : ℕ) → ((i : ℕ) → i < k → f i ≡ g i) → sumBelow f k ≡ sumBelow g k
@@ -31,3 +34,8 @@ sum-part f from size k h =
 
 pub sum-whole : (f : ℕ → ℕ) (from k : ℕ) → k ≤ from → sumBelow f (min from k) ≡ sumBelow f k
 sum-whole f from k h = let e : min from k ≡ k = omega arith in ap (sumBelow f) e
+
+-- a sum of bits is at most their number
+pub sum-digits : (f : ℕ → Bool) (k : ℕ) → sumBelow (λ i. digit (f i)) k ≤ k
+sum-digits f zero = omega arith
+sum-digits f (suc k) = omega (arith, sum-digits f k, digit-le (f k))

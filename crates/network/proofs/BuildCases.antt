@@ -2,7 +2,7 @@
 -- Assumes nothing.
 use mathlib.Core.Path.{_≡_, refl, sym, ap, _∙_, subst}
 use mathlib.Core.Bool.{Bool, true, false, not}
-use mathlib.Core.List.{List, [], _∷_}
+use mathlib.Core.List.{List}
 use mathlib.Core.Logic.{_↔_}
 use Prim.Native.Nat.{ℕ, _+_, _*_, _-_, _≤_, _<_}
 use native.Mathlib.Omega.{arith}
@@ -23,6 +23,7 @@ use Rattle.block.specs.Bits.{sumBelow}
 use Rattle.table.specs.Calls.{over}
 use Rattle.table.proofs.Answer.{the-type}
 use Rattle.table.proofs.Held.{few-inputs, few-outputs}
+use Rattle.table.proofs.Variants.{refusals, is-other}
 use Rattle.fill.specs.declared.Levels.{Levels}
 use Rattle.fill.specs.Work.{workSize, clearedWork, traceWork}
 use Rattle.fill.specs.Calls.{heldTable, countAnswer, levelsOf, linksWork}
@@ -36,7 +37,7 @@ use Rattle.network.proofs.LentNetwork.{built-lent, fit-held}
 use Rattle.network.proofs.RootTurns.{roots-size}
 use Rattle.network.proofs.Laid.{links-cleared, ready-end, ready-long, ready-total, ready-few, ready-next, laid-work, laid-cells}
 use Rattle.network.proofs.Laid.{laid-roots}
-use Rattle.network.proofs.Outcomes.{told-refused, roots-short, short-reaches, count-refused, refused-reaches, count-done}
+use Rattle.network.proofs.Outcomes.{roots-short, short-reaches, count-refused, refused-reaches, count-done}
 use Rattle.network.proofs.Outcomes.{too-small, room-enough, refused-outcome, refused-roots, refused-cells, work-kept, work-cleared}
 use Rattle.network.proofs.Outcomes.{done-outcome, done-roots, done-cells, links-kept-work, links-traced, levels-entries}
 use Rattle.network.proofs.Outcomes.{levels-counts}
@@ -82,11 +83,11 @@ module _ (s : State) (values care work roots cells : List ℕ) where
     counted : k .answer ≡ countAnswer s values care work
     counted = ap (λ (x : Levels). x .answer) ek ∙ levels-answer s values care work
 
-    pub refused-case : OneOf (1 ∷ 2 ∷ 3 ∷ 4 ∷ 5 ∷ 6 ∷ 7 ∷ 8 ∷ 9 ∷ 10 ∷ 11 ∷ 12 ∷ 13 ∷ 14 ∷ []) (tagOf the-type (k .answer))
+    pub refused-case : OneOf refusals (tagOf the-type (k .answer))
         → Ended (outcome (k .answer) s) w roots cells
     refused-case t =
         let x = k .answer in
-        let f = told-refused x t in
+        let f = sym (is-other x t) in
         let fc = sym (ap done counted) ∙ f in
         let q = count-refused s values care work roots cells h fc in
         let e = q .0 ∙ sym counted in

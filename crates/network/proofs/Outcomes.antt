@@ -2,12 +2,10 @@
 -- Assumes nothing.
 use mathlib.Core.Path.{_≡_, refl, sym, ap, _∙_}
 use mathlib.Core.Bool.{Bool, true, false, not, _&&_}
-use mathlib.Core.List.{List, [], _∷_, _++_}
+use mathlib.Core.List.{List, _++_}
 use Prim.Native.Nat.{ℕ, _*_, _≤_, _<_}
 use native.Mathlib.Omega.{arith}
 use borrow.Author.Tests.{le-leb, lt-leb}
-use types.Run.{OneOf, miss}
-use denote.Enum.Declared.{tagOf}
 use lib.Dec.{T, leb}
 use lib.ListN.{length, getD, drop}
 use Rattle.diagram.specs.Table.{filled, cost}
@@ -16,13 +14,12 @@ use Rattle.diagram.specs.Network.{counts}
 use Rattle.diagram.specs.Bound.{mostOutputs}
 use Rattle.diagram.proofs.Bools.{split, to-T, absurd-T}
 use Rattle.table.specs.declared.Answer.{Answer}
-use Rattle.table.specs.declared.Answer.the-variants.{Done, BadLength, BadCheck, BadKind, BadInputs, BadOutputs, BadOrder, BadContent}
-use Rattle.table.specs.declared.Answer.the-variants.{NoRow, NoSuch, ShortBuffer, NoTable, NoNetwork, TooSmall, BadCells}
+use Rattle.table.specs.declared.Answer.the-variants.{Done}
+use Rattle.table.specs.declared.Answer.the-variants.{ShortBuffer, NoTable, TooSmall}
 use Rattle.table.specs.declared.State.{State}
 use Rattle.table.specs.Answer.{unless, done, number, value}
 use Rattle.table.specs.State.{orderOf, stageOf, isNothing}
 use Rattle.table.specs.Calls.{planeSize, over}
-use Rattle.table.proofs.Answer.{the-type}
 use Rattle.fill.specs.Work.{workSize, traceWork, zeroWork}
 use Rattle.fill.specs.Calls.{heldTable, enough, countAnswer, levelsOf, linksWork, entryCounts, drawnOutputs, perLevel}
 use Rattle.network.specs.Lent.{numbersOf, rootsSize}
@@ -30,25 +27,6 @@ use Rattle.network.specs.Build.{heldNetwork, wanted, capacity, longEnoug
 use Rattle.network.specs.Build.{buildOutcome}
 use Rattle.network.specs.Build.{buildRoots, buildCells, buildWork}
 use Rattle.network.proofs.RootTurns.{roots-size}
-
--- every answer but a success
-pub told-refused : (a : Answer) → OneOf (1 ∷ 2 ∷ 3 ∷ 4 ∷ 5 ∷ 6 ∷ 7 ∷ 8 ∷ 9 ∷ 10 ∷ 11 ∷ 12 ∷ 13 ∷ 14 ∷ []) (tagOf the-type a)
-    → done a ≡ false
-told-refused (Done v) t = absurd (miss (1 ∷ 2 ∷ 3 ∷ 4 ∷ 5 ∷ 6 ∷ 7 ∷ 8 ∷ 9 ∷ 10 ∷ 11 ∷ 12 ∷ 13 ∷ 14 ∷ []) 0 tt t)
-told-refused BadLength t = refl
-told-refused BadCheck t = refl
-told-refused BadKind t = refl
-told-refused BadInputs t = refl
-told-refused BadOutputs t = refl
-told-refused BadOrder t = refl
-told-refused BadContent t = refl
-told-refused NoRow t = refl
-told-refused NoSuch t = refl
-told-refused ShortBuffer t = refl
-told-refused NoTable t = refl
-told-refused NoNetwork t = refl
-told-refused (TooSmall v) t = refl
-told-refused BadCells t = refl
 
 and-last : (a b c d : Bool) → d ≡ false → (a && (b && (c && d))) ≡ false
 and-last true true true d e = e

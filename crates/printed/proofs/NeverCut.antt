@@ -1,44 +1,28 @@
 -- Whatever is read and lent, what the printing program prints has room in the buffer of its text.
 -- Assumes nothing.
 use mathlib.Core.Path.{_≡_, sym, subst}
-use mathlib.Core.Bool.{Bool, true, not, _&&_}
+use mathlib.Core.Bool.{true, not, _&&_}
 use mathlib.Core.List.{List, _++_}
-use Prim.Native.Nat.{ℕ, zero, suc, _+_, _*_, _^_, _≤_, _<_}
+use Prim.Native.Nat.{ℕ, _+_, _*_, _^_, _≤_, _<_}
 use native.Mathlib.Omega.{arith}
 use lib.Dec.{T, leb}
 use lib.ListN.{length, getD, drop}
 use lib.Seq.{getD-take}
-use Rattle.diagram.specs.Lists.{digit}
 use Rattle.diagram.specs.Bound.{mostVariables, mostOutputs}
 use Rattle.diagram.proofs.Bools.{split, to-T, absurd-T}
-use Rattle.diagram.proofs.Bits.{digit-le}
 use Rattle.diagram.proofs.Order.{order-at}
 use Rattle.table.specs.declared.Answer.{Answer}
-use Rattle.table.specs.declared.Answer.the-variants.{
-  Done,
-  BadLength,
-  BadCheck,
-  BadKind,
-  BadInputs,
-  BadOutputs,
-  BadOrder,
-  BadContent,
-  NoRow,
-  NoSuch,
-  ShortBuffer,
-  NoTable,
-  NoNetwork,
-  TooSmall,
-  BadCells,
-}
+use Rattle.table.specs.declared.Answer.the-variants.{Done}
 use Rattle.table.specs.declared.Outcome.{Outcome}
 use Rattle.table.specs.declared.State.{State}
 use Rattle.table.specs.Answer.{number, value, done}
-use Rattle.block.specs.Bits.{streamBit, sumBelow}
+use Rattle.block.specs.Bits.{streamBit}
+use Rattle.block.proofs.Sums.{sum-digits}
 use Rattle.table.specs.Stream.{caredBits}
 use Rattle.table.specs.State.{orderOf, stageOf, isNothing}
 use Rattle.table.specs.Calls.{planeSize, over, caredAnswer}
 use Rattle.table.proofs.Held.{few-inputs, few-outputs, few-bits, ordered}
+use Rattle.table.proofs.Variants.{number-few}
 use Rattle.fill.specs.Work.{workSize}
 use Rattle.network.specs.Lent.{numbersOf, rootsSize}
 use Rattle.network.specs.Build.{networkState}
@@ -52,40 +36,18 @@ use Rattle.printed.specs.inner.Printed.{builtText, read, isRead, printed
 use Rattle.printed.proofs.SmallNumbers.{cell-small, root-small}
 use Rattle.printed.proofs.TextLength.{spaced-two, line-few, network-fits}
 
--- a refusal's number has at most two digits
-number-few : (a : Answer) → number a < 100
-number-few (Done v) = omega arith
-number-few BadLength = omega arith
-number-few BadCheck = omega arith
-number-few BadKind = omega arith
-number-few BadInputs = omega arith
-number-few BadOutputs = omega arith
-number-few BadOrder = omega arith
-number-few BadContent = omega arith
-number-few NoRow = omega arith
-number-few NoSuch = omega arith
-number-few ShortBuffer = omega arith
-number-few NoTable = omega arith
-number-few NoNetwork = omega arith
-number-few (TooSmall w) = omega arith
-number-few BadCells = omega arith
-
 refused-fits : (a : Answer) → length (refusedLine a) ≤ textSize
 unfolding refusedLine
 refused-fits a = omega (arith, line-few refused-word (number a) 3 (spaced-two (number a) (number-few a)))
 
 -- the cared bits are at most the stream's
 
-sum-few : (f : ℕ → Bool) (k : ℕ) → sumBelow (λ i. digit (f i)) k ≤ k
-sum-few f zero = omega arith
-sum-few f (suc k) = omega (arith, sum-few f k, digit-le (f k))
-
 cared-few : (s : State) (care : List ℕ) → s .m * 2 ^ s .n ≤ mostOutputs * 2 ^ mostVariables → value (caredAnswer s care) < 100000
 unfolding caredAnswer caredBits
 cared-few s care h =
     split (leb planeSize (length care))
     (λ a. split (not (isNothing (stageOf s)))
-    (λ b. rw (a, b) (omega (arith, sum-few (streamBit care) (s .m * 2 ^ s .n))))
+    (λ b. rw (a, b) (omega (arith, sum-digits (streamBit care) (s .m * 2 ^ s .n))))
     (λ b. rw (a, b) (omega arith)))
     (λ a. rw a (omega arith))
 

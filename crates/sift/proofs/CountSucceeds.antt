@@ -1,33 +1,22 @@
 -- What a count answers and leaves where the buffers are long enough and the heading's rules hold; and a work buffer that is zero twice.
 -- Assumes nothing.
-use mathlib.Core.Path.{_≡_, ap, _∙_, subst}
+use mathlib.Core.Path.{_≡_, ap, _∙_}
 use mathlib.Core.Bool.{true, not}
-use mathlib.Core.List.{List, [], _∷_}
+use mathlib.Core.List.{List}
 use Prim.Native.Nat.{ℕ}
-use types.Run.{OneOf, miss}
-use denote.Enum.Declared.{tagOf}
 use lib.Dec.{T}
 use lib.ListN.{take}
 use Rattle.diagram.specs.Network.{counts}
 use Rattle.diagram.specs.Table.{filled, cost}
 use Rattle.diagram.proofs.Bools.{of-T}
 use Rattle.table.specs.declared.State.{State}
-use Rattle.table.specs.declared.Answer.{Answer}
 use Rattle.table.specs.declared.Answer.the-variants.{Done}
 use Rattle.table.specs.declared.Stage.{Stage}
 use Rattle.table.specs.declared.Stage.the-variants.{Table as AtTable}
 use Rattle.table.specs.State.{goodHeading, stageOf, isNothing, reorderedState}
-use Rattle.table.proofs.Answer.{the-type}
 use Rattle.table.proofs.Held.{stage-good}
 use Rattle.fill.specs.Work.{zeroWork}
 use Rattle.fill.specs.Calls.{heldTable, enough, countAnswer, countWork, perLevel, levelsOf}
-
--- the variants of an answer other than a success, by number
-abbrev pub refusals : List ℕ
-refusals = 1 ∷ 2 ∷ 3 ∷ 4 ∷ 5 ∷ 6 ∷ 7 ∷ 8 ∷ 9 ∷ 10 ∷ 11 ∷ 12 ∷ 13 ∷ 14 ∷ []
-
-pub never-other {ℓ} : {X : Type ℓ} (a : Answer) (v : ℕ) → a ≡ Done v → OneOf refusals (tagOf the-type a) → X
-never-other a v e k = absurd (miss refusals 0 tt (subst (λ (b : Answer). OneOf refusals (tagOf the-type b)) e k))
 
 module _ (s : State) (l values care work : List ℕ) (e : T (enough values care work))
     (g : T (goodHeading (s .n) (s .m) (take (s .n) l))) where

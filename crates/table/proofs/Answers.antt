@@ -1,54 +1,22 @@
--- What the further blocks answer, one block at a time; and an answer's success by its variant.
+-- What the further blocks answer, one block at a time.
 -- Assumes nothing.
-use mathlib.Core.Path.{_≡_, refl, sym, ap, ap₂, _∙_, subst}
+use mathlib.Core.Path.{_≡_, sym, ap, ap₂, _∙_}
 use mathlib.Core.Bool.{true, false}
-use mathlib.Core.List.{List, [], _∷_}
+use mathlib.Core.List.{List}
 use Prim.Native.Nat.{ℕ, suc, _+_, _*_, _-_, _/_, _%_, _^_, _≤_, _<_}
 use native.Mathlib.Nat.{mul-le-mul, mod-eq-of-lt}
 use native.Mathlib.Numerals.{add-one}
 use native.Mathlib.Omega.{arith}
 use borrow.Author.Tests.{eq-eqb, ne-eqb}
-use types.Run.{OneOf, miss}
-use denote.Enum.Declared.{tagOf}
-use lib.Dec.{eqb}
 use lib.ListN.{length}
 use lib.Pow.{pow-mono}
 use Rattle.diagram.specs.Bound.{mostVariables, mostOutputs}
 use Rattle.block.specs.Block.{blockSize, contentBits}
 use Rattle.table.specs.declared.Answer.{Answer}
-use Rattle.table.specs.declared.Answer.the-variants.{Done, BadLength, BadCheck, BadKind, BadInputs, BadOutputs, BadOrder}
-use Rattle.table.specs.declared.Answer.the-variants.{BadContent, NoRow, NoSuch, ShortBuffer, NoTable, NoNetwork, TooSmall, BadCells}
-use Rattle.table.proofs.Answer.{the-type}
+use Rattle.table.specs.declared.Answer.the-variants.{Done, BadLength}
 use Rattle.table.specs.Answer.{done}
 use Rattle.table.specs.inner.Sizes.{mostBits, mostBlocks}
 use Rattle.table.specs.File.{streamBlocks, blockAnswer, blocksAnswer, streamsAnswer}
-
--- a success is the first variant
-done-tag : (a : Answer) → done a ≡ eqb (tagOf the-type a) 0
-done-tag (Done v) = refl
-done-tag BadLength = refl
-done-tag BadCheck = refl
-done-tag BadKind = refl
-done-tag BadInputs = refl
-done-tag BadOutputs = refl
-done-tag BadOrder = refl
-done-tag BadContent = refl
-done-tag NoRow = refl
-done-tag NoSuch = refl
-done-tag ShortBuffer = refl
-done-tag NoTable = refl
-done-tag NoNetwork = refl
-done-tag (TooSmall w) = refl
-done-tag BadCells = refl
-
-abbrev others : List ℕ
-others = 1 ∷ 2 ∷ 3 ∷ 4 ∷ 5 ∷ 6 ∷ 7 ∷ 8 ∷ 9 ∷ 10 ∷ 11 ∷ 12 ∷ 13 ∷ 14 ∷ []
-
-pub is-first : (a : Answer) → tagOf the-type a ≡ 0 → true ≡ done a
-is-first a e = sym (done-tag a ∙ eq-eqb (tagOf the-type a) 0 e)
-
-pub is-other : (a : Answer) → OneOf others (tagOf the-type a) → false ≡ done a
-is-other a o = sym (done-tag a ∙ ne-eqb (tagOf the-type a) 0 (λ e. miss others 0 tt (subst (OneOf others) e o)))
 
 -- the blocks from block k to block `last`: block k's answer if it is a refusal, else those after it
 module _ (bits blocks : ℕ) (file : List ℕ) (last k : ℕ) where

@@ -12,3 +12,4 @@ pub mod Over
 pub mod Reader
 pub mod Swapped
 pub mod VariableLevels
+pub mod Variants

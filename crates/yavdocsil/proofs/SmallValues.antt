@@ -8,14 +8,13 @@ use native.Mathlib.Omega.{arith}
 use lib.Dec.{eqb, ltb, leb}
 use lib.ListN.{length}
 use lib.Pow.{pow-mono}
-use Rattle.diagram.specs.Lists.{digit}
 use Rattle.diagram.specs.Bound.{mostVariables, mostOutputs}
 use Rattle.diagram.specs.Order.{isOrder}
 use Rattle.diagram.specs.Table.{cost}
 use Rattle.diagram.proofs.Bools.{split, to-T}
-use Rattle.diagram.proofs.Bits.{digit-le}
 use Rattle.diagram.proofs.Pass.{pass-within}
-use Rattle.block.specs.Bits.{packed, sumBelow, streamBit}
+use Rattle.block.specs.Bits.{packed, streamBit}
+use Rattle.block.proofs.Sums.{sum-digits}
 use Rattle.block.specs.Block.{blockSize, wholeBlocks, goodCheck, unusedZero, unusedBitsZero}
 use Rattle.table.specs.declared.Answer.{Answer}
 use Rattle.table.specs.declared.Answer.the-variants.{Done, BadLength, BadCheck, BadKind, BadInputs, BadOutputs, BadOrder}
@@ -111,11 +110,6 @@ unfolding loadOutcome loadAnswer
 load-small s file values care =
     checked (leb planeSize (length values) && leb planeSize (length care)) ShortBuffer (fileAnswer file) refl (λ _. file-small file)
 
--- a sum of bits is at most their number
-bits-small : (f : ℕ → Bool) (k : ℕ) → sumBelow (λ i. digit (f i)) k ≤ k
-bits-small f zero = omega arith
-bits-small f (suc k) = omega (arith, bits-small f k, digit-le (f k))
-
 module _ (s : State) where
   -- a table is held
   abbrev held : Bool
@@ -133,7 +127,7 @@ module _ (s : State) where
       let last = Done (caredBits (s .n) (s .m) care) in
       checked (leb planeSize (length care)) ShortBuffer (unless held NoTable last) refl
       (λ _. checked held NoTable last refl
-      (λ e. omega (arith, few-bits s (to-T e), bits-small (streamBit care) (s .m * 2 ^ s .n))))
+      (λ e. omega (arith, few-bits s (to-T e), sum-digits (streamBit care) (s .m * 2 ^ s .n))))
 
   outputs-small : isNetwork (stageOf s) ≡ true → (f : ℕ → Bool) → packed (s .m) f < valueLimit
   outputs-small e f =

@@ -3,7 +3,7 @@ use borrow.Author.Needs.{needs}
 use denote.Ref.{now}
 use mathlib.Core.Path.{_≡_, sym, ap, _∙_}
 use Rattle.table.specs.Answer.{done}
-use Rattle.table.proofs.Answers.{is-first, is-other}
+use Rattle.table.proofs.Variants.{is-first, is-other}
 use Rattle.fill.specs.declared.Levels.{Levels}
 use Rattle.fill.specs.Calls.{countAnswer}
 use Rattle.fill.proofs.Calls.Answers.{levels-answer, count-refused, count-cleared}

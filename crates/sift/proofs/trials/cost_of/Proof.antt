@@ -7,7 +7,8 @@ use lib.ListN.{take}
 use Rattle.diagram.specs.Table.{cost}
 use Rattle.table.specs.Answer.{value}
 use Rattle.fill.specs.Calls.{heldTable}
-use Rattle.sift.proofs.CountSucceeds.{never-other, counted, counted-work}
+use Rattle.table.proofs.Variants.{never-other}
+use Rattle.sift.proofs.CountSucceeds.{counted, counted-work}
 use Rattle.sift.proofs.trials.cost_of.Statement.{statement}
 use Rattle.sift.proofs.trials.cost_of.Tie as tie
 use Rattle.sift.proofs.trials.cost_of.Reads as reads

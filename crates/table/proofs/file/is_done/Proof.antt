@@ -1,7 +1,7 @@
 -- `table::file::is_done` meets its contract.
 -- Assumes nothing.
 use borrow.Author.Needs.{needs}
-use Rattle.table.proofs.Answers.{is-first, is-other}
+use Rattle.table.proofs.Variants.{is-first, is-other}
 use Rattle.table.proofs.file.is_done.Statement.{statement}
 use Rattle.table.proofs.file.is_done.Tie as tie
 
