@@ -1,18 +1,18 @@
 -- What evaluation answers, one test after the other, and what the tests that were passed say of the lent cells.
 -- Assumes nothing.
-use mathlib.Core.Path.{_≡_, refl, ap, _∙_}
+use mathlib.Core.Path.{_≡_, refl, sym, ap, _∙_}
 use mathlib.Core.Bool.{Bool, true, false, not, cond}
 use mathlib.Core.List.{List, []}
 use Prim.Native.Nat.{ℕ, zero, suc, _*_, _/_, _%_, _^_, _≤_, _<_}
 use native.Mathlib.Omega.{arith}
 use borrow.Author.Tests.{lt-ltb, le-ltb, le-leb, lt-leb}
-use lib.Dec.{T, eqb, ltb}
+use lib.Dec.{T, eqb, ltb, leb, leb→le}
 use lib.ListN.{length, getD, take}
 use Rattle.diagram.specs.Lists.{flip}
 use Rattle.diagram.specs.Diagram.{Node, inverts, wellFormed, gives}
 use Rattle.diagram.specs.Bound.{mostVariables, mostOutputs}
 use Rattle.diagram.specs.Order.{rowUnder}
-use Rattle.diagram.proofs.Bools.{to-T}
+use Rattle.diagram.proofs.Bools.{to-T, and-l, and-r}
 use Rattle.diagram.proofs.Evaluate.{formed-roots, formed-nodes}
 use Rattle.diagram.proofs.Bits.{one-shifted}
 use Rattle.table.specs.declared.Answer.the-variants.{Done, ShortBuffer, NoNetwork, NoRow, BadCells}
@@ -48,6 +48,60 @@ outputs-row s row roots cells =
     (λ i j. gives-roots (lentCells (s .count) cells .nodes) [] (take (s .m) roots) (rowUnder (s .n) (orderOf s) row) (s .n)
     (getD roots j 0) i)
 
+-- number 24: the cells are enough for the count, and with the roots well-formed
+module _ (s : State) (roots cells : List ℕ) where
+  pub few-cells : length cells / 3 < s .count → goodCells s roots cells ≡ false
+  unfolding goodCells
+  few-cells h = rw (lt-leb (s .count) (length cells / 3) h)
+
+  pub enough-cells : s .count ≤ length cells / 3
+      → goodCells s roots cells ≡ wellFormed true (s .n) (s .m) (lentDiagram (s .count) (s .m) cells roots)
+  unfolding goodCells
+  enough-cells h = rw (le-leb (s .count) (length cells / 3) h)
+
+  module _ (good : goodCells s roots cells ≡ true) where
+    good-enough : s .count ≤ length cells / 3
+    unfolding goodCells
+    good-enough = leb→le (s .count) (length cells / 3) (and-l (leb (s .count) (length cells / 3)) _ (to-T good))
+
+    good-formed : T (wellFormed true (s .n) (s .m) (lentDiagram (s .count) (s .m) cells roots))
+    unfolding goodCells
+    good-formed = and-r (leb (s .count) (length cells / 3)) _ (to-T good)
+
+-- a network is held, and no root is missing
+module _ (s : State) (roots cells : List ℕ) (long : mostOutputs ≤ length roots) (held : isNetwork (stageOf s) ≡ true) where
+  table : T (not (isNothing (stageOf s)))
+  table = network-held (stageOf s) (to-T held)
+
+  pub inputs-few : s .n ≤ mostVariables
+  inputs-few = few-inputs s table
+
+  pub roots-fit : s .m ≤ length roots
+  roots-fit = omega (arith, few-outputs s table)
+
+  -- 1 << n is 2ⁿ
+  pub shifted-rows : 1 * 2 ^ s .n % 2 ^ 64 ≡ 2 ^ s .n
+  shifted-rows = one-shifted (s .n) (omega (arith, inputs-few))
+
+  module _ (good : goodCells s roots cells ≡ true) where
+    pub followable : Followable (s .n) (s .count) (s .order) cells
+    unfolding lentDiagram lentCells
+    followable = record {
+      few = inputs-few;
+      ordered = ordered s table;
+      held = good-enough s roots cells good;
+      good = formed-nodes true (s .n) (s .m) (lentDiagram (s .count) (s .m) cells roots) (good-formed s roots cells good);
+    }
+
+    pub rooted : Rooted (s .m) (s .count) roots cells
+    unfolding lentDiagram lentCells
+    rooted = record {
+      few = few-outputs s table;
+      fit = roots-fit;
+      own = formed-roots true (s .n) (s .m) (lentDiagram (s .count) (s .m) cells roots) (good-formed s roots cells good);
+    }
+
+-- evaluating one row
 module _ (s : State) (row : ℕ) (roots cells : List ℕ) where
   pub answer-short : length roots < mostOutputs → evaluateAnswer s row roots cells ≡ ShortBuffer
   unfolding evaluateAnswer rootsSize
@@ -59,59 +113,18 @@ module _ (s : State) (row : ℕ) (roots cells : List ℕ) where
     answer-no-network e = rw (le-leb mostOutputs (length roots) long, e)
 
     module _ (held : isNetwork (stageOf s) ≡ true) where
-      table : T (not (isNothing (stageOf s)))
-      table = network-held (stageOf s) (to-T held)
-
-      pub inputs-few : s .n ≤ mostVariables
-      inputs-few = few-inputs s table
-
-      pub roots-fit : s .m ≤ length roots
-      roots-fit = omega (arith, few-outputs s table)
-
-      rows : 1 * 2 ^ s .n % 2 ^ 64 ≡ 2 ^ s .n
-      rows = one-shifted (s .n) (omega (arith, inputs-few))
-
-      pub answer-no-row : 1 * 2 ^ s .n % 2 ^ 64 ≤ row → evaluateAnswer s row roots cells ≡ NoRow
+      pub answer-no-row : 2 ^ s .n ≤ row → evaluateAnswer s row roots cells ≡ NoRow
       unfolding evaluateAnswer rootsSize
-      answer-no-row h = rw (le-leb mostOutputs (length roots) long, held, le-ltb row (2 ^ s .n) (omega (arith, rows)))
+      answer-no-row h = rw (le-leb mostOutputs (length roots) long, held, le-ltb row (2 ^ s .n) h)
 
-      module _ (known : row < 1 * 2 ^ s .n % 2 ^ 64) where
-        rest : (b : Bool) → goodCells s roots cells ≡ b
-            → evaluateAnswer s row roots cells ≡ cond b (Done (rowOutputs s row roots cells)) BadCells
+      module _ (known : row < 2 ^ s .n) where
+        pub answer-bad-cells : goodCells s roots cells ≡ false → evaluateAnswer s row roots cells ≡ BadCells
         unfolding evaluateAnswer rootsSize
-        rest b e = rw (le-leb mostOutputs (length roots) long, held, lt-ltb row (2 ^ s .n) (omega (arith, rows)), e)
+        answer-bad-cells e = rw (le-leb mostOutputs (length roots) long, held, lt-ltb row (2 ^ s .n) known, e)
 
-        pub answer-few-cells : length cells / 3 < s .count → evaluateAnswer s row roots cells ≡ BadCells
-        unfolding goodCells
-        answer-few-cells h = rest false (rw (lt-leb (s .count) (length cells / 3) h))
-
-        module _ (enough : s .count ≤ length cells / 3) where
-          pub answer-not-formed : wellFormed true (s .n) (s .m) (lentDiagram (s .count) (s .m) cells roots) ≡ false
-              → evaluateAnswer s row roots cells ≡ BadCells
-          unfolding goodCells
-          answer-not-formed e = rest false (rw (le-leb (s .count) (length cells / 3) enough, e))
-
-          module _ (formed : wellFormed true (s .n) (s .m) (lentDiagram (s .count) (s .m) cells roots) ≡ true) where
-            pub followable : Followable (s .n) (s .count) (s .order) cells
-            unfolding lentDiagram lentCells
-            followable = record {
-              few = inputs-few;
-              ordered = ordered s table;
-              held = enough;
-              good = formed-nodes true (s .n) (s .m) (lentDiagram (s .count) (s .m) cells roots) (to-T formed);
-            }
-
-            pub rooted : Rooted (s .m) (s .count) roots cells
-            unfolding lentDiagram lentCells
-            rooted = record {
-              few = few-outputs s table;
-              fit = roots-fit;
-              own = formed-roots true (s .n) (s .m) (lentDiagram (s .count) (s .m) cells roots) (to-T formed);
-            }
-
-            pub answer-done : (x : ℕ) → x ≡ packed (s .m) (outputAt (s .n) (s .count) (s .order) cells row roots)
-                → evaluateAnswer s row roots cells ≡ Done x
-            unfolding goodCells
-            answer-done x e =
-                rest true (rw (le-leb (s .count) (length cells / 3) enough, formed))
-                ∙ rw (e, outputs-row s row roots cells)
+        pub answer-done : goodCells s roots cells ≡ true → (x : ℕ)
+            → x ≡ packed (s .m) (outputAt (s .n) (s .count) (s .order) cells row roots) → evaluateAnswer s row roots cells ≡ Done x
+        unfolding evaluateAnswer rootsSize
+        answer-done e x d =
+            rw (le-leb mostOutputs (length roots) long, held, lt-ltb row (2 ^ s .n) known, e)
+            (ap Done (sym (d ∙ outputs-row s row roots cells)))

@@ -1,5 +1,6 @@
 // Lent cells and roots: their numbers, and whether they are a well-formed diagram (document 01, number 24).
 use block::numbers::lent_number;
+use table::State;
 ghost use mathlib.Core.Path.{_≡_};
 ghost use mathlib.Core.Bool.{true};
 ghost use Prim.Native.Nat.{_/_, _≤_, _<_};
@@ -7,6 +8,7 @@ ghost use lib.ListN.{length, take};
 ghost use Rattle.diagram.specs.Lists.{all};
 ghost use Rattle.diagram.specs.Diagram.{later, refers, nodeGood, wellFormed};
 ghost use Rattle.network.specs.Lent.{lentNode, lentDiagram};
+ghost use Rattle.network.specs.Evaluate.{goodCells};
 ghost use Rattle.network.specs.inner.Cells.{lentCells};
 
 // Whether a reference is a constant, or to a counted cell at a level after p.
@@ -71,7 +73,7 @@ fn roots_good(cells: &[u16], count: usize, roots: &[u16], m: usize) -> bool
 }
 
 // Whether the counted cells and the first m roots are a well-formed diagram of n levels.
-pub(crate) fn well_formed(cells: &[u16], count: usize, roots: &[u16], n: usize, m: usize) -> bool
+fn well_formed(cells: &[u16], count: usize, roots: &[u16], n: usize, m: usize) -> bool
     requires { ⌜ (count ≤ length (now cells) / 3) × (m ≤ length (now roots)) ⌝ }
     ensures { λ x. ⌜ x ≡ wellFormed true n m (lentDiagram count m (now (cells .entry)) (now (roots .entry))) ⌝ }
 {
@@ -79,4 +81,16 @@ pub(crate) fn well_formed(cells: &[u16], count: usize, roots: &[u16], n: usize, 
         return false;
     }
     nodes_good(cells, count, n)
+}
+
+// Whether the lent cells are enough for the count, and with the roots a well-formed diagram: what number 24 asks.
+pub(crate) fn good_cells(state: State, roots: &[u16], cells: &[u16]) -> bool
+    requires { ⌜ state .m ≤ length (now roots) ⌝ }
+    ensures { λ x. ⌜ x ≡ goodCells state (now (roots .entry)) (now (cells .entry)) ⌝ }
+{
+    let count = state.count;
+    if cells.len() / 3 < count {
+        return false;
+    }
+    well_formed(cells, count, roots, state.n, state.m)
 }

@@ -1,6 +1,6 @@
 // Evaluation of a row in lent cells (document 01, sections 4 and 7).
 use crate::ROOTS;
-use crate::cells::well_formed;
+use crate::cells::good_cells;
 use crate::follow::outputs;
 use table::Answer;
 use table::State;
@@ -22,14 +22,9 @@ pub fn evaluate(state: State, row: usize, roots: &[u16], cells: &[u16]) -> Answe
     if (1 << n) <= row {
         return Answer::NoRow;
     }
-    let m = state.m;
-    let count = state.count;
-    if cells.len() / 3 < count {
-        return Answer::BadCells;
-    }
-    if !well_formed(cells, count, roots, n, m) {
+    if !good_cells(state, roots, cells) {
         return Answer::BadCells;
     }
     let order = state.order;
-    Answer::Done(outputs(cells, count, roots, m, order, n, row))
+    Answer::Done(outputs(cells, state.count, roots, state.m, order, n, row))
 }

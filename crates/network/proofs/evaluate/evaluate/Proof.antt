@@ -3,12 +3,14 @@
 use borrow.Author.Needs.{needs}
 use mathlib.Core.Path.{_≡_, sym, _∙_}
 use mathlib.Core.Bool.{true}
+use Prim.Native.Nat.{_<_, _^_}
 use native.Mathlib.Omega.{arith}
 use borrow.Author.Tests.{not-true, not-false}
 use denote.Ref.{now}
 use Rattle.table.specs.State.{stageOf, isNetwork}
-use Rattle.network.proofs.Answered.{answer-short, answer-no-network, inputs-few, roots-fit, answer-no-row, answer-few-cells}
-use Rattle.network.proofs.Answered.{answer-not-formed, followable, rooted, answer-done}
+use Rattle.network.specs.Evaluate.{goodCells}
+use Rattle.network.proofs.Answered.{inputs-few, roots-fit, shifted-rows, followable, rooted}
+use Rattle.network.proofs.Answered.{answer-short, answer-no-network, answer-no-row, answer-bad-cells, answer-done}
 use Rattle.network.proofs.evaluate.evaluate.Statement.{statement}
 use Rattle.network.proofs.evaluate.evaluate.Tie as tie
 
@@ -32,63 +34,70 @@ returns-2 c =
     (answer-no-network (a .state) (a .row) (now (a .roots)) (now (a .cells)) (c .before .before .if1 .left)
     (sym (h .ensures) ∙ not-true (h .result) (c .if2 .taken)))
 
+-- past the test of 8
+known : (c : tie.Else3)
+    → c .before .before .before .before .before .before .args .row < 2 ^ c .before .before .before .before .before .before .args .state .n
+known c =
+    let t = c .before in
+    let a = t .before .before .before .before .before .args in
+    omega (arith, c .if3 .left, shifted-rows (a .state) (now (a .roots)) (now (a .cells)) (t .before .before .if1 .left) (held t))
+
+-- past the test of 24
+good : (c : tie.Else4)
+    → goodCells (c .before .before .before .before .before .before .before .before .args .state)
+    (now (c .before .before .before .before .before .before .before .before .args .roots))
+    (now (c .before .before .before .before .before .before .before .before .args .cells))
+    ≡ true
+good c = let g = c .before .good-cells in sym (g .ensures) ∙ not-false (g .result) (c .if4 .left)
+
 shl-if3 : tie.Need-shl-if3
 shl-if3 c =
     let a = c .before .before .before .before .before .args in
-    omega (arith, inputs-few (a .state) (a .row) (now (a .roots)) (now (a .cells)) (c .before .before .if1 .left) (held c))
+    omega (arith, inputs-few (a .state) (now (a .roots)) (now (a .cells)) (c .before .before .if1 .left) (held c))
 
 returns-3 : tie.Need-returns-3
 returns-3 c =
     let t = c .before in
     let a = t .before .before .before .before .before .args in
-    sym (answer-no-row (a .state) (a .row) (now (a .roots)) (now (a .cells)) (t .before .before .if1 .left) (held t) (search needs))
+    let long = t .before .before .if1 .left in
+    sym
+    (answer-no-row (a .state) (a .row) (now (a .roots)) (now (a .cells)) long (held t)
+    (omega (arith, c .if3 .taken, shifted-rows (a .state) (now (a .roots)) (now (a .cells)) long (held t))))
+
+good-cells-requires : tie.Need-good-cells-requires
+good-cells-requires c κs =
+    let t = c .before in
+    let a = t .before .before .before .before .before .args in
+    roots-fit (a .state) (now (a .roots)) (now (a .cells)) (t .before .before .if1 .left) (held t)
 
 returns-4 : tie.Need-returns-4
 returns-4 c =
-    let t = c .before .before in
-    let a = t .before .before .before .before .before .args in
-    sym
-    (answer-few-cells (a .state) (a .row) (now (a .roots)) (now (a .cells)) (t .before .before .if1 .left) (held t) (c .before .if3 .left)
-    (search needs))
-
-well-formed-requires : tie.Need-well-formed-requires
-well-formed-requires c κs =
-    let t = c .before .before in
-    let a = t .before .before .before .before .before .args in
-    (c .if4 .left, roots-fit (a .state) (a .row) (now (a .roots)) (now (a .cells)) (t .before .before .if1 .left) (held t))
-
-returns-5 : tie.Need-returns-5
-returns-5 c =
-    let w = c .before .well-formed in
+    let g = c .before .good-cells in
     let q = c .before .before in
-    let t = q .before .before in
+    let t = q .before in
     let a = t .before .before .before .before .before .args in
     sym
-    (answer-not-formed (a .state) (a .row) (now (a .roots)) (now (a .cells)) (t .before .before .if1 .left) (held t) (q .before .if3 .left)
-    (q .if4 .left) (sym (w .ensures) ∙ not-true (w .result) (c .if5 .taken)))
+    (answer-bad-cells (a .state) (a .row) (now (a .roots)) (now (a .cells)) (t .before .before .if1 .left) (held t) (known q)
+    (sym (g .ensures) ∙ not-true (g .result) (c .if4 .taken)))
 
 outputs-requires : tie.Need-outputs-requires
 outputs-requires c κs =
-    let w = c .before .before .well-formed in
-    let f = sym (w .ensures) ∙ not-false (w .result) (c .before .if5 .left) in
-    let q = c .before .before .before in
-    let t = q .before .before in
-    let a = t .before .before .before .before .before .args in (
-      followable (a .state) (a .row) (now (a .roots)) (now (a .cells)) (t .before .before .if1 .left) (held t) (q .before .if3 .left)
-          (q .if4 .left) f,
-      rooted (a .state) (a .row) (now (a .roots)) (now (a .cells)) (t .before .before .if1 .left) (held t) (q .before .if3 .left)
-          (q .if4 .left) f,
+    let t = c .before .before .before .before in
+    let a = t .before .before .before .before .before .args in
+    let long = t .before .before .if1 .left in (
+      followable (a .state) (now (a .roots)) (now (a .cells)) long (held t) (good (c .before)),
+      rooted (a .state) (now (a .roots)) (now (a .cells)) long (held t) (good (c .before)),
     )
 
-returns-6 : tie.Need-returns-6
-returns-6 c =
-    let w = c .before .before .before .well-formed in
-    let q = c .before .before .before .before in
-    let t = q .before .before in
+returns-5 : tie.Need-returns-5
+returns-5 c =
+    let f = c .before .before in
+    let q = f .before .before in
+    let t = q .before in
     let a = t .before .before .before .before .before .args in
     sym
-    (answer-done (a .state) (a .row) (now (a .roots)) (now (a .cells)) (t .before .before .if1 .left) (held t) (q .before .if3 .left)
-    (q .if4 .left) (sym (w .ensures) ∙ not-false (w .result) (c .before .before .if5 .left)) (c .outputs .result) (c .outputs .ensures))
+    (answer-done (a .state) (a .row) (now (a .roots)) (now (a .cells)) (t .before .before .if1 .left) (held t) (known q) (good f)
+    (c .outputs .result) (c .outputs .ensures))
 
 pub evaluate-spec : {M : Type 1} → statement M
 evaluate-spec =
@@ -99,8 +108,7 @@ evaluate-spec =
     returns-2
     shl-if3
     returns-3
+    good-cells-requires
     returns-4
-    well-formed-requires
-    returns-5
     outputs-requires
-    returns-6)
+    returns-5)
