@@ -10,6 +10,7 @@ pub mod LevelRead
 pub mod LevelTurns
 pub mod LevelsRead
 pub mod LinkRefs
+pub mod ManyRows
 pub mod Nodes
 pub mod Offsets
 pub mod Outcomes

@@ -30,11 +30,14 @@ module _ (count : ℕ) (cells : List ℕ) where
   unfolding lentCells
   all-nodes q = all-mapped q (lentNode cells) (upTo count)
 
--- a test of the first m numbers of a list, one by one
-pub all-first : (q : ℕ → Bool) (m : ℕ) (l : List ℕ) → m ≤ length l → all q (take m l) ≡ all (λ j. q (getD l j 0)) (upTo m)
-all-first q m l h =
+-- the first m numbers of a list, one by one
+pub first-elements : (m : ℕ) (l : List ℕ) → m ≤ length l → take m l ≡ map (λ j. getD l j 0) (upTo m)
+first-elements m l h =
     let f : ℕ → ℕ = λ j. getD l j 0 in
     let k : length (take m l) ≡ m = length-take-le m l h in
-    ap (all q) (ext-getD 0 (take m l) (map f (upTo m)) (k ∙ sym (length-map-upTo f m))
-    (λ j b. let a : j < m = omega arith in getD-take m l j 0 a ∙ sym (getD-map-upTo f m j 0 a)))
-    ∙ all-mapped q f (upTo m)
+    ext-getD 0 (take m l) (map f (upTo m)) (k ∙ sym (length-map-upTo f m))
+    (λ j b. let a : j < m = omega arith in getD-take m l j 0 a ∙ sym (getD-map-upTo f m j 0 a))
+
+-- a test of them
+pub all-first : (q : ℕ → Bool) (m : ℕ) (l : List ℕ) → m ≤ length l → all q (take m l) ≡ all (λ j. q (getD l j 0)) (upTo m)
+all-first q m l h = ap (all q) (first-elements m l h) ∙ all-mapped q (λ j. getD l j 0) (upTo m)

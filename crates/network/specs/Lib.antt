@@ -1,4 +1,5 @@
 pub mod Lent
 pub mod Evaluate
 pub mod Build
+pub mod Rows
 pub mod inner

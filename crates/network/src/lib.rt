@@ -6,6 +6,7 @@ mod follow;
 mod levels;
 mod links;
 mod roots;
+pub mod rows;
 
 use diagram::OUTPUTS;
 

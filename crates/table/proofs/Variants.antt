@@ -12,7 +12,8 @@ use types.Run.{OneOf, miss}
 use denote.Enum.Declared.{tagOf}
 use Rattle.table.specs.declared.Answer.{Answer}
 use Rattle.table.specs.declared.Answer.the-variants.{Done, BadLength, BadCheck, BadKind, BadInputs, BadOutputs, BadOrder}
-use Rattle.table.specs.declared.Answer.the-variants.{BadContent, NoRow, NoSuch, ShortBuffer, NoTable, NoNetwork, TooSmall, BadCells}
+use Rattle.table.specs.declared.Answer.the-variants.{BadContent, NoRow, NoSuch, ShortBuffer, NoTable, NoNetwork, TooSmall}
+use Rattle.table.specs.declared.Answer.the-variants.{BadCells, ShortAnswers}
 use Rattle.table.proofs.Answer.{the-type}
 use Rattle.table.specs.Answer.{number, value, done}
 
@@ -38,10 +39,11 @@ by-variant NoTable = inr record { tagged = λ e. omega arith; numbered = omega a
 by-variant NoNetwork = inr record { tagged = λ e. omega arith; numbered = omega arith; few = omega arith }
 by-variant (TooSmall w) = inr record { tagged = λ e. omega arith; numbered = omega arith; few = omega arith }
 by-variant BadCells = inr record { tagged = λ e. omega arith; numbered = omega arith; few = omega arith }
+by-variant ShortAnswers = inr record { tagged = λ e. omega arith; numbered = omega arith; few = omega arith }
 
 -- the variants other than a success, by their tags
 abbrev pub refusals : List ℕ
-refusals = 1 ∷ 2 ∷ 3 ∷ 4 ∷ 5 ∷ 6 ∷ 7 ∷ 8 ∷ 9 ∷ 10 ∷ 11 ∷ 12 ∷ 13 ∷ 14 ∷ []
+refusals = 1 ∷ 2 ∷ 3 ∷ 4 ∷ 5 ∷ 6 ∷ 7 ∷ 8 ∷ 9 ∷ 10 ∷ 11 ∷ 12 ∷ 13 ∷ 14 ∷ 15 ∷ []
 
 pub number-few : (a : Answer) → number a < 100
 number-few a = ⊎-elim (λ e. omega (arith, sym (ap number e))) (λ r. r .few) (by-variant a)

@@ -1,11 +1,12 @@
--- Sections 6 and 7 of document 01: the number and the value of each answer.
+-- Sections 6 and 7 of document 01, and the refusals of document 02: the number and the value of each answer.
 -- Assumes nothing.
 use mathlib.Core.Bool.{Bool, cond}
 use Prim.Native.Nat.{ℕ}
 use lib.Dec.{eqb}
 use Rattle.table.specs.declared.Answer.{Answer}
 use Rattle.table.specs.declared.Answer.the-variants.{Done, BadLength, BadCheck, BadKind, BadInputs, BadOutputs, BadOrder}
-use Rattle.table.specs.declared.Answer.the-variants.{BadContent, NoRow, NoSuch, ShortBuffer, NoTable, NoNetwork, TooSmall, BadCells}
+use Rattle.table.specs.declared.Answer.the-variants.{BadContent, NoRow, NoSuch, ShortBuffer, NoTable, NoNetwork, TooSmall}
+use Rattle.table.specs.declared.Answer.the-variants.{BadCells, ShortAnswers}
 
 abbrev pub number : Answer → ℕ
 number (Done v) = 0
@@ -23,6 +24,7 @@ number NoTable = 21
 number NoNetwork = 22
 number (TooSmall wanted) = 23
 number BadCells = 24
+number ShortAnswers = 31
 
 -- 'A refusal answers its number and 0, but 23 adds the cells wanted'
 abbrev pub value : Answer → ℕ
@@ -41,6 +43,7 @@ value NoTable = 0
 value NoNetwork = 0
 value (TooSmall wanted) = wanted
 value BadCells = 0
+value ShortAnswers = 0
 
 -- the first answer where the test fails, else what follows
 abbrev pub unless : Bool → Answer → Answer → Answer

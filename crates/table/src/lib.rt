@@ -44,6 +44,7 @@ pub enum Answer {
     NoNetwork,
     TooSmall(usize),
     BadCells,
+    ShortAnswers,
 }
 
 // An answer, and the state after the call.

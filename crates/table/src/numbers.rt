@@ -23,6 +23,7 @@ pub fn number_of(answer: Answer) -> usize
         Answer::NoNetwork => 22,
         Answer::TooSmall(_) => 23,
         Answer::BadCells => 24,
+        Answer::ShortAnswers => 31,
     }
 }
 
@@ -46,5 +47,6 @@ pub fn value_of(answer: Answer) -> usize
         Answer::NoTable => 0,
         Answer::NoNetwork => 0,
         Answer::BadCells => 0,
+        Answer::ShortAnswers => 0,
     }
 }
