@@ -1,5 +1,8 @@
 // The calls, one a word, on the table at the desk.
 use crate::command::Command;
+use crate::list::Listed;
+use crate::list::ROWS;
+use crate::list::rows_in;
 use crate::show;
 use diagram::NODES;
 use fill::count;
@@ -79,6 +82,24 @@ fn said(desk: Desk, word: &[u8], outcome: Outcome) -> Desk {
 fn evaluated(desk: Desk, row: usize, roots: &[u16], cells: &[u16]) -> Desk {
     let state = desk.state;
     show::answer(b"eval", evaluate(state, row, roots, cells));
+    with_state(desk, state)
+}
+
+// Evaluates the rows that word k lists, and prints the answer and what each row gives.
+pub(crate) fn evaluated_rows(
+    desk: Desk,
+    k: usize,
+    word: &[u8],
+    roots: &[u16],
+    cells: &[u16],
+) -> Desk {
+    let mut rows = [0u16; ROWS];
+    let listed = rows_in(word, &mut rows);
+    let Listed::Rows(count) = listed else {
+        return bad(desk, k);
+    };
+    let state = desk.state;
+    show::row_answers(state, count, &rows, roots, cells);
     with_state(desk, state)
 }
 

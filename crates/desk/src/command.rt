@@ -10,6 +10,7 @@ pub enum Command {
     Sift,
     Pass,
     Eval,
+    Evals,
     Board,
     Order,
     State,
@@ -45,7 +46,7 @@ pub(crate) fn of(word: &[u8]) -> Command {
     with_number(word)
 }
 
-// Which of the words with a number it is.
+// Which of the words with a number, or a list of them, it is.
 fn with_number(word: &[u8]) -> Command {
     if same(word, b"swap") {
         return Command::Swap;
@@ -58,6 +59,9 @@ fn with_number(word: &[u8]) -> Command {
     }
     if same(word, b"eval") {
         return Command::Eval;
+    }
+    if same(word, b"evals") {
+        return Command::Evals;
     }
     if same(word, b"board") {
         return Command::Board;

@@ -1,6 +1,7 @@
 // A command over every call: `desk WORD.. < TABLE`. It loads the table on standard input, then does what the words say, in turn.
 mod calls;
 mod command;
+mod list;
 mod show;
 
 use calls::Desk;
@@ -20,7 +21,7 @@ use table::load::unloaded;
 // The longest word that is read whole.
 const WORD: usize = 4096;
 
-// Takes word k: the number that the word before it waits for, or the next word of the command.
+// Takes word k: the number or list that the word before it waits for, or the next word of the command.
 fn take(
     desk: Desk,
     k: usize,
@@ -36,6 +37,7 @@ fn take(
     let waiting = desk.waiting;
     match waiting {
         Command::None => calls::first(desk, k, command::of(word), values, care, work, roots, cells),
+        Command::Evals => calls::evaluated_rows(desk, k, word, roots, cells),
         _ => calls::second(desk, k, waiting, word, values, care, work, roots, cells),
     }
 }

@@ -1,7 +1,10 @@
 // What is printed: one line, or the lines of a network.
+use crate::list::ROWS;
+use block::numbers::lent_number;
 use diagram::VARIABLES;
 use libc::STDOUT_FILENO;
 use network::evaluate::evaluate;
+use network::rows::evaluate_rows;
 use printed::output::TEXT;
 use table::Answer;
 use table::Stage;
@@ -64,10 +67,37 @@ pub(crate) fn cared(state: State, care: &[u8]) {
     number(b"cared", bits);
 }
 
-fn row(state: State, row: usize, roots: &[u16], cells: &[u16]) {
+fn row(row: usize, given: Answer) {
     let mut line = [0u8; LINE];
-    let length = row_line(&mut line, row, evaluate(state, row, roots, cells));
+    let length = row_line(&mut line, row, given);
     write(&line, length);
+}
+
+// The line of each row, with its answer.
+fn row_lines(rows: &[u16], answers: &[u16]) {
+    let mut i: usize = 0;
+    while i < rows.len() {
+        row(lent_number(rows, i), Answer::Done(lent_number(answers, i)));
+        i += 1;
+    }
+}
+
+// What evaluating the rows of a list answers, and the line of each where that is a success.
+fn evaluated(state: State, rows: &[u16], roots: &[u16], cells: &[u16]) {
+    let mut answers = [0u16; ROWS];
+    let given = evaluate_rows(state, rows, &mut answers, roots, cells);
+    answer(b"evals", given);
+    match given {
+        Answer::Done(_) => row_lines(rows, &answers),
+        _ => {}
+    }
+}
+
+// The same of the first so many rows.
+pub(crate) fn row_answers(state: State, count: usize, rows: &[u16], roots: &[u16], cells: &[u16]) {
+    if count <= rows.len() {
+        evaluated(state, &rows[..count], roots, cells);
+    }
 }
 
 pub(crate) fn rows(state: State, roots: &[u16], cells: &[u16]) {
@@ -78,7 +108,7 @@ pub(crate) fn rows(state: State, roots: &[u16], cells: &[u16]) {
     let end: usize = 1 << n;
     let mut r: usize = 0;
     while r < end {
-        row(state, r, roots, cells);
+        row(r, evaluate(state, r, roots, cells));
         r += 1;
     }
 }

@@ -21,6 +21,9 @@ shl-end c = search needs
 loop-holds : tie.Need-loop-holds Inv-loop μ-loop
 loop-holds c = search needs
 
+evaluate-requires : tie.Need-evaluate-requires Inv-loop μ-loop
+evaluate-requires c κs = search needs
+
 row-requires : tie.Need-row-requires Inv-loop μ-loop
 row-requires c κs = search needs
 
@@ -45,6 +48,7 @@ rows-spec =
     returns
     shl-end
     loop-holds
+    evaluate-requires
     row-requires
     add-r
     loop-less
