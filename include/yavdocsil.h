@@ -49,7 +49,8 @@ enum {
     YAV_NO_TABLE = 21,
     YAV_NO_NETWORK = 22,
     YAV_TOO_SMALL = 23,     /* the value is the cells wanted */
-    YAV_BAD_CELLS = 24
+    YAV_BAD_CELLS = 24,
+    YAV_SHORT_ANSWERS = 31  /* fewer answers lent than rows */
 };
 
 /* An answer is its number × 2³² + its value. */
@@ -75,6 +76,12 @@ uint64_t yav_build(uint64_t *state, size_t state_words, const uint8_t *values, s
 /* What the network gives at a row: bit j is output j. It tests the cells first. Numbers 10, 22, 8, 24. */
 uint64_t yav_evaluate(const uint64_t *state, size_t state_words, uint64_t row,
                       const uint16_t *roots, size_t roots_elements, const uint16_t *cells, size_t cells_elements);
+
+/* The same for each row of a list: answer i is what row i alone gives, and answers past the last row stay. The cells are tested once.
+ * A row out of range, wherever it stands, writes nothing. Numbers 10, 31, 22, 8, 24. */
+uint64_t yav_evaluate_rows(const uint64_t *state, size_t state_words, const uint16_t *rows, size_t rows_elements,
+                           uint16_t *answers, size_t answers_elements, const uint16_t *roots, size_t roots_elements,
+                           const uint16_t *cells, size_t cells_elements);
 
 /* Exchanges the inputs at `place` and the place below it. Numbers 10, 21, 9. */
 uint64_t yav_swap(uint64_t *state, size_t state_words, uint64_t place);

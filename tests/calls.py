@@ -48,7 +48,7 @@ def single(rng):
     call = refusals.sound_call(rng, name, *small_size(rng))
     if name == "build":
         lend_board(rng, call.lent)
-    if name == "evaluate":
+    if name in lending.EVALUATIONS:
         lend_counted(rng, call.lent)
     due = rng.choices(range(4), (70, 15, 10, 5))[0]
     kinds = refusals.kinds_of(name)
@@ -98,18 +98,22 @@ def boards(rng):
 
 
 def diagram_calls(rng):
-    """Evaluations of one diagram: many rows, then breaches of it."""
+    """Evaluations of one diagram: rows and lists of them, then breaches of it."""
     n, m = small_size(rng)
     lent = lending.lent_for(rng, n, m)
     cells, roots = diagrams.random_diagram(rng, n, m)
     lending.lend_diagram(lent, cells, roots)
-    for _ in range(6):
+    for _ in range(4):
         lend_counted(rng, lent)
         yield Call("evaluate", lending.numbers_near(rng, "evaluate", n), lent, "any diagram")
+        lending.lend_rows_near(rng, lent, n)
+        yield Call("evaluate_rows", {}, lent, "any diagram")
     for _ in range(4):
         lending.lend_diagram(lent, cells, roots)
         rng.choice((refusals.break_lent_diagram, refusals.lend_too_few_cells))(rng, lent)
         yield Call("evaluate", {"row": rng.randrange(2**n)}, lent, "a diagram with a breach")
+        lending.lend_rows(rng, lent, lending.rows_inside(rng, n))
+        yield Call("evaluate_rows", {}, lent, "a diagram with a breach")
 
 
 # Chains.
@@ -125,9 +129,9 @@ def next_name(rng, lent):
     if holds(lent) == reference.NOTHING and rng.random() < 0.6:
         return "load"
     if holds(lent) == reference.NETWORK and rng.random() < 0.5:
-        return "evaluate"
-    names = ["load", "cared", "count", "build", "build", "evaluate", "swap", "swap"]
-    return rng.choice(names + ["sift", "pass"])
+        return rng.choice(lending.EVALUATIONS)
+    names = ["load", "cared", "count", "build", "build", "evaluate", "evaluate_rows", "swap"]
+    return rng.choice(names + ["swap", "sift", "pass"])
 
 
 def meddle(rng, lent):
@@ -154,14 +158,17 @@ def next_call(rng, lent, note):
         file = cases.random_table(rng, *small_size(rng))
         damaged = rng.random() < 0.2
         lending.lend_file(rng, lent, refusals.damaged_file(rng, file) if damaged else file)
-    if name == "evaluate" and rng.random() < 0.5:
+    if name in lending.EVALUATIONS and rng.random() < 0.5:
         lend_counted(rng, lent)
     if name == "build" and holds(lent) != reference.NOTHING and rng.random() < 0.4:
         lend_board(rng, lent)
     n = min(lent.contents["state"][library.N], reference.ORDER_ENTRIES)
+    if name == "evaluate_rows":
+        lending.lend_rows_near(rng, lent, n)
     call = Call(name, lending.numbers_near(rng, name, n), lent, note)
     if rng.random() < 0.08:
-        buffers = [each for each in library.slices_of(name) if each in lending.SIZES]
+        shortened = [*lending.SIZES, "answers"]
+        buffers = [each for each in library.slices_of(name) if each in shortened]
         refusals.spoil(rng, call, rng.choice(buffers))
     return call
 
@@ -185,14 +192,16 @@ def large(rng):
     m = rng.choice((1, 1, 2, 3, 5, rng.randint(1, 16)))
     lent = lending.lent_for(rng, n, m, lending.LARGEST_BOARD)
     lending.lend_file(rng, lent, cases.random_table(rng, n, m))
-    names = ["load", "cared", "build"] + ["evaluate"] * 5 + ["build", "swap", "count", "build"]
-    names += ["evaluate"] * 3
+    names = ["load", "cared", "build"] + ["evaluate"] * 5 + ["evaluate_rows", "build", "swap"]
+    names += ["count", "build"] + ["evaluate"] * 3 + ["evaluate_rows"]
     if n * m * 2**n <= MOST_BITS_TRIED:
         names += ["sift", "build", "evaluate"]
     if n * n * m * 2**n <= MOST_BITS_TRIED:
-        names += ["pass", "build", "evaluate"]
+        names += ["pass", "build", "evaluate_rows"]
     for name in names:
         lent.lengths["cells"] = lending.LARGEST_BOARD
+        if name == "evaluate_rows":
+            lending.lend_rows_near(rng, lent, n)
         if name == "build" and rng.random() < 0.3:
             lend_board(rng, lent)
         yield Call(name, lending.numbers_near(rng, name, n), lent, "a larger table")

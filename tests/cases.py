@@ -137,6 +137,57 @@ def word_cases():
     return cases + [Case("desk", ["nonsense"], refused), Case("desk", ["swap"], b"")]
 
 
+# Lists of rows.
+
+RIGHT_LISTS = [
+    "0", "7", "3,5,1", "3,3,3,3", "7,6,5,4,3,2,1,0", "007,0,0000005", "0" * 4095 + "7",
+]
+LISTS_BEYOND = ["8", "8,0", "0,8", "0,8,1", "7,00009", "65535", "0,1,65535", "256,0", "32771"]
+# Some would be right without the mark, and some in 16, 32 or 64 bits.
+WRONG_LISTS = [
+    "", ",", ",,", ",3", "3,", "3,,5", "3,5,", "3, 5", "3 ,5", " 3", "3 ", " ", "3,5 ", "3 5",
+    "-3", "+3", "3,-5", "3,+5", "3;5", "3.5", "3.0,5", "0x3", "3_0", "3,count", "a", "3,a,5",
+    "65536", "65539", "3,65536", "65536,3", "4294967299", "18446744073709551619", "3," + "9" * 40,
+    "\t3", "3\n", "3,\n5", "\u0663", "3,\u0663", "\u00b2", "\udcff", "3\udcff", "3,\udcff",
+]
+
+
+def list_of(rows):
+    return ",".join(str(row) for row in rows)
+
+
+def list_cases():
+    """Lists that are right, that have a row out of range and that are wrong."""
+    table = files.table_from_rows(["0 1 1 0 1 0 0 -", "0 0 0 1 0 1 1 1"], [2, 0, 1])
+    commands = [["build", "evals"], ["evals"], ["build", "evals", "3", "5"]]
+    for text in RIGHT_LISTS + LISTS_BEYOND + WRONG_LISTS:
+        commands.append(["build", "evals", text, "state", "cells"])
+    # Before a build, after a swap, and with a board too small for the held network.
+    commands += [["evals", text, "state"] for text in ("3", "8", "3,,5", "65535")]
+    commands.append("build evals 3,5 swap 1 evals 3,5 evals 8 build evals 3,5 rows".split())
+    commands.append("build sift 0 evals 0 build board 0 build evals 0,7 evals 7,8".split())
+    # A shorter list after a longer one, and a right one after one that is refused.
+    commands.append("build evals 7,6,5,4 evals 1 evals 3,8,2 evals 2,0,2 eval 6 evals 6".split())
+    cases = [Case("desk", command, table) for command in commands]
+    no_inputs = files.table_from_rows(["1", "0", "1"])
+    cases.append(desk(no_inputs, "evals 0 build evals 0,0 evals 1 evals 0,1"))
+    return cases + long_list_cases(table)
+
+
+def long_list_cases(table):
+    """All rows of ten inputs in one word, and words around 4,096 bytes."""
+    largest = random_table(random.Random("evals"), 10, 16)
+    rows = list(range(1024))
+    lists = [list_of(rows), list_of(rows[::-1]), list_of(rows[1:] + [1024])]
+    cases = [Case("desk", ["build", "evals", text], largest) for text in lists]
+    # Zeros in front of all rows, and as many rows as a word holds and one more.
+    texts = ["0" * more + lists[0] for more in (86, 87, 88)]
+    cases += [Case("desk", ["build", "evals", text, "state"], largest) for text in texts]
+    texts = ["5," * 2047 + last for last in ("7", "07", "007", "8", "")]
+    texts += ["5," * 2048 + "7", "0" * 4096 + "7", "7" * 4096, "0" * 100000]
+    return cases + [Case("desk", ["build", "evals", text, "state"], table) for text in texts]
+
+
 # Random tables.
 
 
@@ -218,6 +269,15 @@ def row_near(rng, n):
     return rng.choice(below + (rows, rows + 1, 65536, LARGEST))
 
 
+def rows_near(rng, n):
+    """Few rows or all of them in any sequence, now and then with one out of range."""
+    few = [rng.randrange(1 << n) for _ in range(rng.randint(1, 12))]
+    rows = rng.choice((few, few, rng.sample(range(1 << n), 1 << n)))
+    if rng.random() < 0.2:
+        rows[rng.choice((0, len(rows) // 2, -1))] = rng.choice((1 << n, (1 << n) + 1, 65535))
+    return rows
+
+
 def board_words(rng, table, words):
     """A board at, just below or just above the count, or at an end."""
     count = answer_after(table, words, "count")
@@ -229,13 +289,15 @@ def board_words(rng, table, words):
 def random_step(rng, table, words, sifting):
     """The words of one step: a change or question, and what shows it."""
     n = table[4]
-    kinds = ["board", "swap", "eval", "count", "build"]
+    kinds = ["board", "swap", "eval", "evals", "count", "build"]
     kinds += ["sift", "sift", "pass", "pass"] if sifting else []
     kind = rng.choice(kinds)
     if kind == "board":
         return board_words(rng, table, words)
     if kind == "eval":
         return ["eval", str(row_near(rng, n)), "eval", str(row_near(rng, n))]
+    if kind == "evals":
+        return ["evals", list_of(rows_near(rng, n))]
     if kind == "count":
         return ["count", "state", "cells"]
     if kind == "build":
@@ -339,6 +401,7 @@ def groups(seed, random_count):
     made["paper"] = paper_cases
     made["lengths"] = length_cases
     made["words"] = word_cases
+    made["lists"] = list_cases
     for base, parts in (("tiny", 2), ("small", 4), ("large", 16)):
         for part in range(parts):
             made[f"damage {base} {part}"] = (

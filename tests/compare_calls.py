@@ -33,8 +33,9 @@ SECONDS_IN_CHUNK = 40
 # The numbers that the paper lets each call give.
 POSSIBLE = {
     "load": (0, 1, 2, 3, 4, 5, 6, 7, 10), "cared": (0, 10, 21), "count": (0, 10, 21),
-    "build": (0, 10, 21, 23), "evaluate": (0, 8, 10, 22, 24), "swap": (0, 9, 10, 21),
-    "sift": (0, 9, 10, 21), "pass": (0, 10, 21),
+    "build": (0, 10, 21, 23), "evaluate": (0, 8, 10, 22, 24),
+    "evaluate_rows": (0, 8, 10, 22, 24, 31), "swap": (0, 9, 10, 21), "sift": (0, 9, 10, 21),
+    "pass": (0, 10, 21),
 }
 
 # `calls` were compared; `given` counts (call, number); `text` shows a difference.
@@ -161,10 +162,11 @@ def show_crashes(seed, path):
 
 def print_table(given):
     numbers = sorted({number for _, number in given if isinstance(number, int)})
-    print("call     " + "".join(f"{number:>7}" for number in numbers))
+    width = max(len(name) for name in library.CALLS)
+    print(f"{'call':{width}}" + "".join(f"{number:>7}" for number in numbers))
     for name in library.CALLS:
         counts = [str(given[name, number] or "") for number in numbers]
-        print(f"{name:9}" + "".join(f"{count:>7}" for count in counts))
+        print(f"{name:{width}}" + "".join(f"{count:>7}" for count in counts))
 
 
 def wrong_numbers(given):

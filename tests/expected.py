@@ -13,6 +13,12 @@ Decisions where the texts leave room:
   printed, and a refused load is printed whatever the words are.
 - `rows` prints a line for every row below 2^n at every stage, so at stage
   table each of them says 22.
+- `evals LIST` is document 02's 2.1: one word of row numbers with a comma between
+  each two, as 3,5,12. A number in it is at most 65,535, since rows are lent in 16
+  bits. Any other word, and one longer than 4,096 bytes, is a wrong number.
+- After a success `evals` prints the lines of its rows in the list's sequence, in
+  the form that `rows` has. The answers are always as many as the rows, so 31
+  never comes up.
 """
 
 import sys
@@ -22,9 +28,11 @@ import reference
 LONGEST_INPUT = 65536
 LARGEST_NUMBER = 4294967295
 MOST_CELLS = 2159
+LARGEST_ROW = 65535
+LONGEST_LIST = 4096
 
 PLAIN_WORDS = ("count", "build", "order", "state", "cells", "rows", "cared")
-NUMBER_WORDS = ("swap", "sift", "pass", "eval", "board")
+NUMBER_WORDS = ("swap", "sift", "pass", "eval", "evals", "board")
 
 
 class Desk:
@@ -94,6 +102,16 @@ class Desk:
             lines.append(f"row {row} {number} {value}")
         return lines
 
+    def list_lines(self, rows):
+        answers = [0] * len(rows)
+        refusal, value = reference.evaluate_rows(
+            self.state, rows, answers, self.roots, self.cells
+        )
+        lines = [f"evals {refusal} {value}"]
+        if refusal:
+            return lines
+        return lines + [f"row {row} 0 {answer}" for row, answer in zip(rows, answers)]
+
     def say(self, word, number):
         """The lines that one word of the command prints."""
         if word == "board":
@@ -109,6 +127,8 @@ class Desk:
             return self.row_lines()
         if word == "cared":
             return [self.cared_line()]
+        if word == "evals":
+            return self.list_lines(number)
         refusal, value = self.call(word, number)
         return [f"{word} {refusal} {value}"]
 
@@ -120,8 +140,23 @@ def number_in(text, largest):
     return int(text) if int(text) <= largest else None
 
 
+def rows_in(text):
+    """The rows that a word lists, or None where one of them or the word is wrong."""
+    if len(text) > LONGEST_LIST:
+        return None
+    rows = [number_in(part, LARGEST_ROW) for part in text.split(",")]
+    return None if None in rows else rows
+
+
+def asked_in(word, text):
+    """What stands behind a word that takes a number or a list, or None."""
+    if word == "evals":
+        return rows_in(text)
+    return number_in(text, MOST_CELLS if word == "board" else LARGEST_NUMBER)
+
+
 def steps(words):
-    """The words as (word, number) in turn; a wrong one is ("bad word", K)."""
+    """The words as (word, number or list) in turn; a wrong one is ("bad word", K)."""
     at = 0
     while at < len(words):
         word = words[at]
@@ -134,11 +169,11 @@ def steps(words):
             return
         text = words[at] if at < len(words) else ""
         at += 1
-        number = number_in(text, MOST_CELLS if word == "board" else LARGEST_NUMBER)
-        if number is None:
+        asked = asked_in(word, text)
+        if asked is None:
             yield "bad word", at
             return
-        yield word, number
+        yield word, asked
 
 
 def as_text(lines):

@@ -10,6 +10,7 @@ import functools
 import cases
 import files
 import fixed_diagrams
+import fixed_rows
 import lending
 import library
 import refusals
@@ -127,6 +128,7 @@ def widest(rng):
         yield Call("build", {}, lent, "the widest table")
     for row in (0, 777, 1023, 1024):
         yield Call("evaluate", {"row": row}, lent, "the widest table")
+    yield from fixed_rows.all_of(rng, lent, 10, "the widest table")
 
 
 def moves(rng):
@@ -162,7 +164,7 @@ def refused(rng, name):
 
 CHUNKS = [
     widest, shapes, lengths_at_limits, headings, files_and_states, sizes_of_files, boards, moves,
-    sizes, fixed_diagrams.all_calls,
+    sizes, fixed_diagrams.all_calls, fixed_rows.all_calls,
 ]
 CHUNKS += [functools.partial(damages, base=base) for base in cases.DAMAGE_BASES]
 CHUNKS += [functools.partial(refused, name=name) for name in library.CALLS]

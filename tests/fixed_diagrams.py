@@ -82,12 +82,12 @@ def sequences(rng):
         yield asked(row, lent, f"a breach, {note}")
 
 
-def wasteful(rng):
-    """Sound diagrams that no build makes, at every row and the one behind."""
+def sound_diagrams(rng):
+    """Most of them are such that no build makes them."""
     no_cells = WHOLE._replace(cells=0)
     other_order = Held(order=[2, 0, 3, 1, HUGE, 0, 0, 1, 1, 7])
     eight = FOUR_CELLS_NUMBERS + MORE_CELLS
-    made = [
+    return [
         ("as built", diagram(rng, Held())),
         ("order 2 0 3 1", diagram(rng, other_order)),
         ("turned", diagram(rng, Held(), TURNED, (8,))),
@@ -98,7 +98,11 @@ def wasteful(rng):
         ("no cells", diagram(rng, Held(m=2, count=0), roots=(1, 0), lengths=no_cells)),
         ("n 0", diagram(rng, Held(n=0, m=2, count=0), roots=(1, 0))),
     ]
-    for note, lent in made:
+
+
+def wasteful(rng):
+    """Each at every row and the one behind."""
+    for note, lent in sound_diagrams(rng):
         for row in range(17):
             yield asked(row, lent, note)
 

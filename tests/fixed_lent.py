@@ -66,6 +66,7 @@ def asked_of(name, asked):
 
 def one(rng, name, note, held, lengths=WHOLE, asked=INSIDE, table=TWO_ANDS):
     lent = lent_with(rng, held, lengths, table)
+    lending.lend_rows(rng, lent, [0, asked.row, 1], more=2)
     return Call(name, asked_of(name, asked), lent, note)
 
 

@@ -14,7 +14,12 @@ import reference
 HUGE = 2**64 - 1
 MOST_ORDERS = 2**32 - 1
 
-# Section 2's sizes; cells and files have none of their own.
+# The last row that a list can hold, of 16 bits.
+MOST_ROW = 65535
+# The calls that take a network which the state holds.
+EVALUATIONS = ("evaluate", "evaluate_rows")
+
+# Section 2's sizes; cells, files and lists of rows have none of their own.
 SIZES = {
     "state": library.STATE_WORDS, "values": reference.TABLE_BYTES,
     "care": reference.TABLE_BYTES, "work": reference.WORK_BYTES,
@@ -132,6 +137,14 @@ def lend_file(rng, lent, file):
     lent.put("file", file + rng.randbytes(rng.choice((1, 7, 512))), len(file))
 
 
+def lend_rows(rng, lent, rows, more=0):
+    """The rows, and dirty answers: so many more than rows, or with -1 one fewer."""
+    behind = dirty(rng, "rows", SPARE)
+    lent.put("rows", library.new_buffer("rows", rows) + behind, len(rows))
+    answers = len(rows) + more
+    lent.put("answers", dirty(rng, "answers", max(answers, len(rows)) + SPARE), answers)
+
+
 def lend_diagram(lent, cells, roots):
     """The diagram in the dirty buffers, counted and held by the state."""
     numbers = [number for cell in cells for number in cell]
@@ -142,7 +155,7 @@ def lend_diagram(lent, cells, roots):
 
 
 def lent_for(rng, n, m, cells=SMALL_BOARD):
-    """A sound state and dirty buffers for all calls but load, which takes a file."""
+    """A sound state and dirty buffers; a file and a list of rows are lent apart."""
     lent = library.Lent()
     for name, size in SIZES.items():
         lent.put(name, dirty(rng, name, size + SPARE), size)
@@ -206,3 +219,35 @@ def number_near(rng, argument, n):
 def numbers_near(rng, name, n):
     arguments = [each for each in library.arguments_of(name) if each in library.NUMBERS]
     return {argument: number_near(rng, argument, n) for argument in arguments}
+
+
+# Lists of rows.
+
+
+def rows_inside(rng, n):
+    """No row beyond: none, few, the same again and again, or all in any sequence."""
+    limit = 2**n
+    few = [inside(rng, limit) for _ in range(rng.randint(1, 9))]
+    all_rows = rng.sample(range(limit), limit)
+    return rng.choice(([], few, few, few[:1] * rng.randint(2, 40), all_rows, all_rows + few))
+
+
+def row_beyond(rng, n):
+    """From the limit to the largest of 16 bits, some of them inside in fewer."""
+    limit = 2**n
+    low = rng.randrange(limit)
+    further = (limit + 1, 2**10 + low, 2**15 + low, MOST_ROW, rng.randint(limit, MOST_ROW))
+    return rng.choice((limit, rng.choice(further)))
+
+
+def put_row_beyond(rng, rows, length, n):
+    """At the first, a middle or the last position of what is lent."""
+    rows[rng.choice((0, length // 2, length - 1))] = row_beyond(rng, n)
+
+
+def lend_rows_near(rng, lent, n):
+    """Mostly a list that is not refused, with answers enough."""
+    rows = rows_inside(rng, n)
+    if rows and rng.random() < 0.15:
+        put_row_beyond(rng, rows, len(rows), n)
+    lend_rows(rng, lent, rows, rng.choice((0, 0, 1, rng.randrange(SPARE))))

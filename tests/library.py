@@ -23,7 +23,7 @@ TYPES = {
 # The type of a slice's elements, and of a number, by the argument's name.
 SLICES = {
     "state": "u64", "file": "u8", "values": "u8", "care": "u8", "work": "u8",
-    "roots": "u16", "cells": "u16",
+    "roots": "u16", "cells": "u16", "rows": "u16", "answers": "u16",
 }
 NUMBERS = {"row": "u64", "place": "u64", "input": "u64", "limit": "u32"}
 
@@ -34,6 +34,7 @@ CALLS = {
     "count": "state values care work",
     "build": "state values care work roots cells",
     "evaluate": "state row roots cells",
+    "evaluate_rows": "state rows answers roots cells",
     "swap": "state place",
     "sift": "state input values care work",
     "pass": "state limit values care work",

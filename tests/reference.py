@@ -1,12 +1,14 @@
-"""The paper's sections 1 to 7 written once more, as plainly as possible.
+"""The paper's sections 1 to 7, and document 02's 2.1, written once more, as
+plainly as possible.
 
 This is the other implementation that the programs are compared with. It is
-made from the paper alone and shares nothing with the crates. Rows are lists,
+made from the papers alone and shares nothing with the crates. Rows are lists,
 the network is read off the segments of the filled table, and nothing is packed
 or shared between steps.
 
 Every call answers (number, value). Buffers are mutable sequences of numbers:
-values, care and work hold bytes, roots and cells hold 16-bit numbers.
+values, care and work hold bytes; roots, cells, rows and answers hold 16-bit
+numbers.
 """
 
 from collections import namedtuple
@@ -408,6 +410,14 @@ def followed(state, row, reference, cells):
     return given ^ (reference % 2)
 
 
+def answer_at(state, row, roots, cells):
+    """Follows the roots; bit j is output j."""
+    answer = 0
+    for j in range(state.m):
+        answer += 2**j * followed(state, row, roots[j], cells)
+    return answer
+
+
 def evaluate(state, row, roots, cells):
     if len(roots) < ROOTS:
         return 10, 0
@@ -417,10 +427,24 @@ def evaluate(state, row, roots, cells):
         return 8, 0
     if not network_is_sound(state, roots, cells):
         return 24, 0
-    answer = 0
-    for j in range(state.m):
-        answer += 2**j * followed(state, row, roots[j], cells)
-    return 0, answer
+    return 0, answer_at(state, row, roots, cells)
+
+
+def evaluate_rows(state, rows, answers, roots, cells):
+    """Document 02's 2.1: each answer equals evaluating that row alone."""
+    if len(roots) < ROOTS:
+        return 10, 0
+    if len(answers) < len(rows):
+        return 31, 0
+    if stage_of(state) != NETWORK:
+        return 22, 0
+    if any(row >= 2**state.n for row in rows):
+        return 8, 0
+    if not network_is_sound(state, roots, cells):
+        return 24, 0
+    for i, row in enumerate(rows):
+        answers[i] = answer_at(state, row, roots, cells)
+    return 0, 0
 
 
 def leave_table(state, order):

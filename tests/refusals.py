@@ -38,7 +38,7 @@ def damaged_file(rng, file):
 def spoil_words(rng, call):
     """For an evaluation a table alone is too little as well."""
     words = call.lent.contents["state"]
-    if call.name == "evaluate" and rng.random() < 0.3:
+    if call.name in lending.EVALUATIONS and rng.random() < 0.3:
         words[library.STAGE] = 1
     else:
         lending.broken_state(rng, words)
@@ -73,6 +73,25 @@ def spoil_cells(rng, call):
         lend_too_few_cells(rng, call.lent)
 
 
+def some_rows(rng, lent):
+    """An empty list has no row to spoil, and any answers are enough for it."""
+    if lent.lengths["rows"] == 0:
+        lending.lend_rows(rng, lent, [0])
+
+
+def spoil_rows(rng, lent):
+    some_rows(rng, lent)
+    n = lent.contents["state"][library.N]
+    lending.put_row_beyond(rng, lent.contents["rows"], lent.lengths["rows"], n)
+
+
+def spoil_answers(rng, lent):
+    """Fewer answers than rows, mostly by one."""
+    some_rows(rng, lent)
+    rows = lent.lengths["rows"]
+    lent.lengths["answers"] = rng.choice((0, rows - 1, rows - 1, rng.randrange(rows)))
+
+
 def spoil(rng, call, kind):
     """The call with one refusal more, or now and then with none more."""
     lent = call.lent
@@ -82,6 +101,10 @@ def spoil(rng, call, kind):
         spoil_cells(rng, call)
     elif kind == "file":
         lending.lend_file(rng, lent, damaged_file(rng, bytes(lent.part("file"))))
+    elif kind == "rows":
+        spoil_rows(rng, lent)
+    elif kind == "answers":
+        spoil_answers(rng, lent)
     elif kind in library.NUMBERS:
         n = lent.contents["state"][library.N]
         call.numbers[kind] = lending.beyond(rng, lending.first_beyond(kind, n))
@@ -96,12 +119,14 @@ def spoil_all(rng, call, kinds):
 
 
 def sound_call(rng, name, n, m):
-    """No refusal due but the numbers' own, where n leaves no number inside."""
+    """No refusal due but, now and then, for the number or for one of the rows."""
     lent = lending.lent_for(rng, n, m)
     if name == "load":
         lending.lend_file(rng, lent, cases.random_table(rng, n, m))
-    if name == "evaluate":
+    if name in lending.EVALUATIONS:
         lending.lend_diagram(lent, *diagrams.random_diagram(rng, n, m))
+    if name == "evaluate_rows":
+        lending.lend_rows_near(rng, lent, n)
     return Call(name, lending.numbers_near(rng, name, n), lent, "one call")
 
 

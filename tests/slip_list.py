@@ -8,6 +8,12 @@ SHORT_ROOTS = "    if len(roots) < ROOTS:\n        return 10, 0\n"
 NO_NETWORK = "    if stage_of(state) != NETWORK:\n        return 22, 0\n"
 ROW_BEYOND = "    if row >= 2**state.n:\n        return 8, 0\n"
 UNSOUND = "    if not network_is_sound(state, roots, cells):\n        return 24, 0\n"
+FEW_ANSWERS = "    if len(answers) < len(rows):\n        return 31, 0\n"
+ROWS_BEYOND = "    if any(row >= 2**state.n for row in rows):\n        return 8, 0\n"
+EACH_ROW = """\
+    for i, row in enumerate(rows):
+        answers[i] = answer_at(state, row, roots, cells)
+"""
 SHORT_TABLE = "    if table_buffers_short(values, care, work):\n        return 10, 0\n"
 NO_TABLE = "    if stage_of(state) == NOTHING:\n        return 21, 0\n"
 PLACE_BEYOND = "    if place + 1 >= state.n:\n        return 9, 0\n"
@@ -239,4 +245,52 @@ SIFT_SLIPS = [
     ("sift: the table is filled once", BEST_START, FILLED_ONCE + BEST_START),
 ]
 
-SLIPS = SEQUENCE_SLIPS + STATE_SLIPS + BUFFER_SLIPS + NETWORK_SLIPS + SIFT_SLIPS
+# Document 02's 2.1.
+ROW_BY_ROW = """\
+    sound = network_is_sound(state, roots, cells)
+    for i, row in enumerate(rows):
+        if row >= 2**state.n:
+            return 8, 0
+        if sound:
+            answers[i] = answer_at(state, row, roots, cells)
+"""
+ROW_ONCE = """\
+    for row in set(rows):
+        answers[list(rows).index(row)] = answer_at(state, row, roots, cells)
+"""
+NEXT_ANSWER = "    if len(answers) > len(rows):\n        answers[len(rows)] = 0\n"
+
+LIST_SLIPS = [
+    ("rows: 31 before 10", SHORT_ROOTS + FEW_ANSWERS, FEW_ANSWERS + SHORT_ROOTS),
+    ("rows: 22 before 31", FEW_ANSWERS + NO_NETWORK, NO_NETWORK + FEW_ANSWERS),
+    (
+        "rows: 8 before 22", NO_NETWORK + ROWS_BEYOND,
+        ROWS_BEYOND.replace("state.n", "min(state.n, 10)") + NO_NETWORK,
+    ),
+    ("rows: 24 before 8", ROWS_BEYOND + UNSOUND, UNSOUND + ROWS_BEYOND),
+    ("rows: tested one by one as they are evaluated", ROWS_BEYOND, ROW_BY_ROW),
+    ("rows: the last one is not tested", "for row in rows):", "for row in rows[:-1]):"),
+    ("rows: the first alone is tested", "for row in rows):", "for row in rows[:1]):"),
+    ("rows: an answer past the last is zeroed", EACH_ROW, EACH_ROW + NEXT_ANSWER),
+    (
+        "rows: of an empty list the cells are not tested", ROWS_BEYOND + UNSOUND,
+        ROWS_BEYOND + UNSOUND.replace("if not", "if len(rows) and not"),
+    ),
+    (
+        "rows: for an empty list no network is needed", FEW_ANSWERS + NO_NETWORK,
+        FEW_ANSWERS + NO_NETWORK.replace("if stage", "if len(rows) and stage"),
+    ),
+    (
+        "rows: 31 only when there are no answers", FEW_ANSWERS + NO_NETWORK,
+        FEW_ANSWERS.replace("len(answers) < len(rows)", "len(answers) == 0 < len(rows)")
+        + NO_NETWORK,
+    ),
+    ("rows: 31 when the answers are just enough", FEW_ANSWERS, FEW_ANSWERS.replace("<", "<=")),
+    ("rows: a repeated row is answered once", EACH_ROW, ROW_ONCE),
+    (
+        "rows: a success answers their number", EACH_ROW + "    return 0, 0\n",
+        EACH_ROW + "    return 0, len(rows)\n",
+    ),
+]
+
+SLIPS = LIST_SLIPS + SEQUENCE_SLIPS + STATE_SLIPS + BUFFER_SLIPS + NETWORK_SLIPS + SIFT_SLIPS

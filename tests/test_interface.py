@@ -1,7 +1,8 @@
-"""A test of the library as its users meet it: the header, and the examples in C and Python.
+"""A test of what README shows: the header, the examples in C and Python, and the desk.
 
-`python3 tests/test_interface.py`, after ./build. The examples must print what
-README shows, the header must declare what the library exports and no more.
+`python3 tests/test_interface.py`, after ./build. The examples and the desk must
+print what README shows, the header must declare what the library exports and
+no more.
 """
 
 import pathlib
@@ -11,10 +12,13 @@ import sys
 import tempfile
 import unittest
 
+import library
+
 ROOT = pathlib.Path(__file__).resolve().parent.parent
 HEADER = ROOT / "include" / "yavdocsil.h"
 STATIC = ROOT / "target" / "lib" / "libyavdocsil.a"
 SHARED = ROOT / "target" / "lib" / "libyavdocsil.so"
+DESK = ROOT / "target" / "bin" / "desk"
 TABLE = "examples/and-or-crossed.table"
 STRICT = ["-Wall", "-Wextra", "-Werror", "-pedantic", f"-I{HEADER.parent}"]
 
@@ -61,12 +65,21 @@ class Examples(unittest.TestCase):
         self.assertEqual(printed(self.program, TABLE), self.shown)
 
 
+class Desk(unittest.TestCase):
+    def test_it_prints_what_readme_shows(self):
+        words = "count sift 1 order build evals 3,12"
+        shown = shown_in_readme(f"target/bin/desk {words} < {TABLE}")
+        with open(ROOT / TABLE, "rb") as table:
+            run = subprocess.run([DESK] + words.split(), stdin=table, capture_output=True, text=True)
+        self.assertEqual(run.stdout, shown)
+
+
 class Header(unittest.TestCase):
     def test_it_declares_what_the_library_exports(self):
         declared = re.findall(r"^uint64_t (\w+)\(", HEADER.read_text(), re.MULTILINE)
         exported = re.findall(r" T (\w+)", printed("nm", "-D", "--defined-only", str(SHARED)))
         self.assertEqual(sorted(declared), sorted(name for name in exported if name.startswith("yav_")))
-        self.assertEqual(len(declared), 8)
+        self.assertEqual(sorted(declared), sorted(f"yav_{name}" for name in library.CALLS))
 
     def test_it_is_c_and_cplusplus(self):
         for compiler, language in (("cc", "c"), ("c++", "c++")):

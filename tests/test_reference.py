@@ -1,9 +1,10 @@
-"""A quick test of the reference against the paper's own figures.
+"""A quick test of the reference against the papers' own figures.
 
-`python3 tests/test_reference.py`. The figures here are copied from the paper
+`python3 tests/test_reference.py`. The figures here are copied from the papers
 or worked out by hand, never taken from a program.
 """
 
+import itertools
 import random
 import unittest
 
@@ -312,6 +313,82 @@ class States(unittest.TestCase):
             self.assertEqual((any(desk.work[:-1]), desk.work[-1]), (False, 7))
 
 
+class Lists(unittest.TestCase):
+    """Document 02's 2.1: many rows, one call."""
+
+    def setUp(self):
+        self.desk = loaded(files.table_from_rows(["0 1 1 0"]))
+        self.desk.build()
+
+    def evaluated(self, rows, answers):
+        desk = self.desk
+        return reference.evaluate_rows(desk.state, rows, answers, desk.roots, desk.cells)
+
+    def assert_refused(self, number, rows, answers):
+        found = list(answers)
+        self.assertEqual(self.evaluated(rows, answers), (number, 0))
+        self.assertEqual(answers, found)
+
+    def test_answers_past_the_last_row_are_kept(self):
+        answers = [7] * 6
+        self.assertEqual(self.evaluated([1, 3, 1, 2], answers), (0, 0))
+        self.assertEqual(answers, [1, 0, 1, 1, 7, 7])
+
+    def test_answers_as_many_as_rows(self):
+        answers = [7, 7, 7]
+        self.assertEqual(self.evaluated([3, 2, 2], answers), (0, 0))
+        self.assertEqual(answers, [0, 1, 1])
+
+    def test_row_beyond_writes_nothing(self):
+        for place, beyond in itertools.product(range(3), (4, 65535)):
+            rows = [1, 2, 1]
+            rows[place] = beyond
+            self.assert_refused(8, rows, [7] * 4)
+
+    def test_too_few_answers(self):
+        for length in range(3):
+            self.assert_refused(31, [1, 2, 1], [7] * length)
+
+    def test_empty_list(self):
+        for answers in ([], [7, 7]):
+            found = list(answers)
+            self.assertEqual(self.evaluated([], answers), (0, 0))
+            self.assertEqual(answers, found)
+        self.desk.cells[0] = 2
+        self.assert_refused(24, [], [7])
+        self.desk.state.stage = reference.TABLE
+        self.assert_refused(22, [], [7])
+        self.desk.roots = [0] * 15
+        self.assert_refused(10, [], [7])
+
+    def test_sequence_of_the_checks(self):
+        for due in itertools.product((False, True), repeat=5):
+            self.setUp()
+            short_roots, few_answers, no_network, beyond, unsound = due
+            if short_roots:
+                self.desk.roots = self.desk.roots[:15]
+            if no_network:
+                self.desk.state.stage = reference.TABLE
+            if unsound:
+                self.desk.roots[0] = 6
+            numbers = [number for number, is_due in zip((10, 31, 22, 8, 24), due) if is_due]
+            if numbers:
+                rows = [1, 2, 4] if beyond else [1, 2, 3]
+                self.assert_refused(numbers[0], rows, [7] * (2 if few_answers else 4))
+
+    def test_each_answer_is_that_of_its_row_alone(self):
+        rng = random.Random(7)
+        for _ in range(40):
+            n, m = rng.randint(0, 5), rng.randint(1, 16)
+            self.desk = loaded(cases.random_table(rng, n, m))
+            self.desk.build()
+            rows = [rng.randrange(1 << n) for _ in range(20)]
+            answers = [7] * 20
+            self.assertEqual(self.evaluated(rows, answers), (0, 0))
+            self.assertEqual([(0, answer) for answer in answers],
+                             [self.desk.call("eval", row) for row in rows])
+
+
 class Words(unittest.TestCase):
     def test_bad_words(self):
         file = files.table_from_rows(["0 1 1 0"])
@@ -321,6 +398,24 @@ class Words(unittest.TestCase):
         }
         for command, place in wanted.items():
             self.assertEqual(desk_lines(file, command)[-1], f"bad word {place}", command)
+
+    def test_lists_of_rows(self):
+        file = files.table_from_rows(["0 1 1 0"])
+        lines = desk_lines(file, "evals 3 build evals 3,001,1 evals 0,4 swap 0 evals 4")
+        wanted = ["evals 22 0", "build 0 2", "evals 0 0", "row 3 0 0", "row 1 0 1", "row 1 0 1"]
+        self.assertEqual(lines[1:], wanted + ["evals 8 0", "swap 0 0", "evals 22 0"])
+
+    def test_wrong_lists(self):
+        file = files.table_from_rows(["0 1 1 0"])
+        for text in cases.WRONG_LISTS:
+            lines = expected.desk_text(file, ["build", "evals", text, "state"]).splitlines()
+            self.assertEqual(lines[2:], ["bad word 3"], text)
+
+    def test_length_of_lists(self):
+        all_rows = cases.list_of(range(1024))
+        self.assertEqual(len(all_rows), 4009)
+        self.assertEqual(expected.rows_in("0" * 87 + all_rows), list(range(1024)))
+        self.assertIsNone(expected.rows_in("0" * 88 + all_rows))
 
     def test_cells_only_of_a_network(self):
         file = files.table_from_rows(["0 1 1 0"])

@@ -6,7 +6,7 @@ use mathlib.Core.Logic.{_↔_}
 use mathlib.Core.List.{List}
 use Prim.Native.Nat.{ℕ, _/_, _≤_, _<_}
 use native.Mathlib.Omega.{arith}
-use borrow.Author.Tests.{le-leb, lt-leb}
+use borrow.Author.Tests.{le-leb, lt-leb, eq-eqb}
 use lib.Dec.{leb→le}
 use lib.ListN.{length}
 use Rattle.diagram.proofs.Bools.{to-T}
@@ -17,7 +17,7 @@ use Rattle.table.specs.declared.State.{State}
 use Rattle.table.specs.Answer.{number, value, done}
 use Rattle.yavdocsil.specs.Words.{stateWords, valueLimit, stateFrom, answerWord}
 use Rattle.yavdocsil.specs.Called.{isState, answered, leaves}
-use Rattle.yavdocsil.proofs.AnswerWords.{word-number}
+use Rattle.yavdocsil.proofs.AnswerWords.{word-done, word-number}
 
 -- too few words
 module _ (words : List ℕ) (h : length words < stateWords) where
@@ -52,6 +52,11 @@ module _ (s t : State) (e : s ≡ t) (o p : Outcome) (q : p ≡ o) where
   pub carried : done (p .answer) ≡ true → (D : State → Outcome → Type 0) → (done (o .answer) ≡ true → D s o) → D t p
   carried d D owed =
       subst (λ (u : State). D u p) e (subst (D s) (sym q) (owed (sym (ap (λ (x : Outcome). done (x .answer)) q) ∙ d)))
+
+-- the same of a call that leaves the state
+pub carried-answer : (s t : State) → s ≡ t → (a : Answer) (r : ℕ) → r ≡ answerWord a → r < valueLimit → (D : State → Type 0)
+    → (done a ≡ true → D s) → D t
+carried-answer s t e a r w h D owed = subst D e (owed (eq-eqb (number a) 0 (word-done a r w h)))
 
 -- the same of what is owed of the answer's number
 pub carried-number : (s t : State) → s ≡ t → (a : Answer) (r x : ℕ) → r ≡ answerWord a → value a < valueLimit → (Ready : State → Bool)

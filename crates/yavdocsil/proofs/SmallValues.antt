@@ -8,6 +8,7 @@ use native.Mathlib.Omega.{arith}
 use lib.Dec.{eqb, ltb, leb}
 use lib.ListN.{length}
 use lib.Pow.{pow-mono}
+use Rattle.diagram.specs.Lists.{all}
 use Rattle.diagram.specs.Bound.{mostVariables, mostOutputs}
 use Rattle.diagram.specs.Order.{isOrder}
 use Rattle.diagram.specs.Table.{cost}
@@ -18,7 +19,8 @@ use Rattle.block.proofs.Sums.{sum-digits}
 use Rattle.block.specs.Block.{blockSize, wholeBlocks, goodCheck, unusedZero, unusedBitsZero}
 use Rattle.table.specs.declared.Answer.{Answer}
 use Rattle.table.specs.declared.Answer.the-variants.{Done, BadLength, BadCheck, BadKind, BadInputs, BadOutputs, BadOrder}
-use Rattle.table.specs.declared.Answer.the-variants.{BadContent, NoRow, NoSuch, ShortBuffer, NoTable, NoNetwork, TooSmall, BadCells}
+use Rattle.table.specs.declared.Answer.the-variants.{BadContent, NoRow, NoSuch, ShortBuffer, NoTable, NoNetwork, TooSmall}
+use Rattle.table.specs.declared.Answer.the-variants.{BadCells, ShortAnswers}
 use Rattle.table.specs.declared.State.{State}
 use Rattle.table.specs.Answer.{value, done, unless, unlessRefused}
 use Rattle.table.specs.State.{orderOf, stageOf, isNothing, isNetwork}
@@ -31,6 +33,7 @@ use Rattle.fill.specs.Calls.{heldTable, enough, countAnswer}
 use Rattle.network.specs.Lent.{rootsSize}
 use Rattle.network.specs.Build.{wanted, capacity, longEnough, buildAnswer, buildOutcome}
 use Rattle.network.specs.Evaluate.{goodCells, rowOutputs, evaluateAnswer}
+use Rattle.network.specs.Rows.{rowsAnswer}
 use Rattle.network.proofs.HeldRead.{few-nodes, few-wanted}
 use Rattle.network.proofs.Answered.{network-held}
 use Rattle.network.proofs.Outputs.{outputs-below}
@@ -143,6 +146,18 @@ module _ (s : State) where
       (λ _. checked (isNetwork (stageOf s)) NoNetwork (unless inside NoRow last) refl
       (λ e. checked inside NoRow last refl
       (λ _. checked (goodCells s roots cells) BadCells (Done (rowOutputs s row roots cells)) refl (λ _. outputs-small e _))))
+
+  -- many rows: the one success is 0
+  pub rows-small : (rows answers roots cells : List ℕ) → Small (rowsAnswer s rows answers roots cells)
+  unfolding rowsAnswer
+  rows-small rows answers roots cells =
+      let last = unless (goodCells s roots cells) BadCells (Done 0) in
+      let inside = all (λ row. ltb row (2 ^ s .n)) rows in
+      let network = unless (isNetwork (stageOf s)) NoNetwork (unless inside NoRow last) in
+      checked (leb rootsSize (length roots)) ShortBuffer (unless (leb (length rows) (length answers)) ShortAnswers network) refl
+      (λ _. checked (leb (length rows) (length answers)) ShortAnswers network refl
+      (λ _. checked (isNetwork (stageOf s)) NoNetwork (unless inside NoRow last) refl
+      (λ _. checked inside NoRow last refl (λ _. checked (goodCells s roots cells) BadCells (Done 0) refl (λ _. none)))))
 
   -- the calls that are lent values, care and a work buffer: 10, then 21
   module _ (values care work : List ℕ) where

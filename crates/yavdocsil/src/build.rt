@@ -1,11 +1,10 @@
-// Counting, building and evaluating a network, for other languages.
+// Counting the nodes of a network, and building it, for other languages.
 use crate::answer::answer_word;
 use crate::answer::settle;
 use crate::state::WORDS;
 use crate::state::read_state;
 use fill::count;
 use network::build::build;
-use network::evaluate::evaluate;
 use table::Answer;
 ghost use mathlib.Core.Path.{_≡_};
 ghost use mathlib.Core.Bool.{true};
@@ -16,7 +15,6 @@ ghost use Rattle.table.specs.State.{orderOf};
 ghost use Rattle.fill.specs.Calls.{heldTable, countAnswer, countWork};
 ghost use Rattle.network.specs.Lent.{lentDiagram};
 ghost use Rattle.network.specs.Build.{capacity, reachesBoard, buildOutcome, buildRoots, buildCells, buildWork, Built};
-ghost use Rattle.network.specs.Evaluate.{evaluateAnswer};
 ghost use Rattle.yavdocsil.specs.Words.{valueLimit, stateFrom};
 ghost use Rattle.yavdocsil.specs.Called.{isState, answered, leaves, settled, success};
 
@@ -89,15 +87,4 @@ pub extern "C" fn yav_build(
     }
     let outcome = build(read_state(words), values, care, work, roots, cells);
     settle(outcome, words)
-}
-
-// The outputs that the lent network gives at a row, bit j output j.
-#[no_mangle]
-pub extern "C" fn yav_evaluate(words: &[u64], row: u64, roots: &[u16], cells: &[u16]) -> u64
-    ensures { λ r. ⌜ r ≡ answered (now (words .entry)) (λ s. evaluateAnswer s row (now (roots .entry)) (now (cells .entry))) ⌝ }
-{
-    if words.len() < WORDS {
-        return answer_word(Answer::ShortBuffer);
-    }
-    answer_word(evaluate(read_state(words), row as usize, roots, cells))
 }

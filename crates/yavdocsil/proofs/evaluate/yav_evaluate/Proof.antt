@@ -1,12 +1,12 @@
--- `yavdocsil::build::yav_evaluate` meets its contract: 10 for a short state, else what `evaluate` answers.
+-- `yavdocsil::evaluate::yav_evaluate` meets its contract: 10 for a short state, else what `evaluate` answers.
 -- Assumes nothing.
 use borrow.Author.Needs.{needs}
 use mathlib.Core.Path.{sym, subst}
 use denote.Ref.{now}
 use Rattle.yavdocsil.proofs.SmallValues.{Small, evaluate-small}
 use Rattle.yavdocsil.proofs.Calling.{short-answer, called-answer}
-use Rattle.yavdocsil.proofs.build.yav_evaluate.Statement.{statement}
-use Rattle.yavdocsil.proofs.build.yav_evaluate.Tie as tie
+use Rattle.yavdocsil.proofs.evaluate.yav_evaluate.Statement.{statement}
+use Rattle.yavdocsil.proofs.evaluate.yav_evaluate.Tie as tie
 
 answer-word-requires : tie.Need-answer-word-requires
 answer-word-requires c κs = search needs
