@@ -31,19 +31,29 @@ fn part_end(word: &[u8], at: usize) -> usize
     end
 }
 
+// Reads the row between two places of a word into position k; says whether it is a row's number, and there is room for it.
+fn read_row(word: &[u8], at: usize, end: usize, rows: &mut [u16], k: usize) -> bool
+    requires { ⌜ (at ≤ end) × (end ≤ length (now word)) ⌝ }
+{
+    if rows.len() <= k {
+        return false;
+    }
+    let Decimal::Is(row) = decimal_in(&word[at..end], LARGEST) else {
+        return false;
+    };
+    rows[k] = (row % 65536) as u16;
+    true
+}
+
 // Reads the rows that a word lists.
 pub(crate) fn rows_in(word: &[u8], rows: &mut [u16]) -> Listed {
     let mut count: usize = 0;
     let mut at: usize = 0;
     while at <= word.len() {
-        if rows.len() <= count {
+        let end = part_end(word, at);
+        if !read_row(word, at, end, rows, count) {
             return Listed::Wrong;
         }
-        let end = part_end(word, at);
-        let Decimal::Is(row) = decimal_in(&word[at..end], LARGEST) else {
-            return Listed::Wrong;
-        };
-        rows[count] = (row % 65536) as u16;
         count += 1;
         at = end + 1;
     }
