@@ -50,19 +50,6 @@ PASS_END = "    leave_table(state, order)\n    clear_work(work)\n    return 0, t
 SWAP_END = "    leave_table(state, order)\n    return 0, 0\n"
 BUILD_END = "    state.count = len(new_cells)\n    state.stage = NETWORK\n"
 BEST_START = "    best, fewest = None, None\n"
-CONSTANTS = """\
-    for constant in (0, 1):
-        if is_constant(candidate, constant):
-            return "constant", constant
-"""
-MATCHES = """\
-    inverse = [(1 - value, care) for value, care in candidate]
-    for index, entry in enumerate(entries):
-        for inverted, compared in ((0, candidate), (1, inverse)):
-            if agree(compared, entry):
-                entries[index] = merged(compared, entry)
-                return "entry", index, inverted
-"""
 FILLED_ONCE = """\
     rows = [row_in_file(row, order) for row in range(2**table.n)]
     found = filled(table, order)
@@ -223,7 +210,11 @@ NETWORK_SLIPS = [
         "cared counts the whole last byte", "sum(stream_bits(care, state.m * 2**state.n))",
         "sum(stream_bits(care, (state.m * 2**state.n + 7) // 8 * 8))",
     ),
-    ("matches before constants", CONSTANTS + MATCHES, MATCHES + CONSTANTS),
+    (
+        "matches before constants", "        if is_constant(candidate, constant):\n",
+        "        matched = any(agree(candidate, entry) for entry in entries)\n"
+        "        if is_constant(candidate, constant) and not matched:\n",
+    ),
     ("never inverted", "((0, candidate), (1, inverse))", "((0, candidate),)"),
     ("inverted before plain", "((0, candidate), (1, inverse))", "((1, inverse), (0, candidate))"),
     ("an entry's care from before its merges", "(f if c else g, c or d)", "(f if c else g, d)"),
