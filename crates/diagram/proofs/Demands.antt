@@ -71,7 +71,7 @@ module _ (inv : Bool) (t : Table) (order : List ℕ) where
       }
 
   module _ (D : Diagram) (s : Solves inv t order D) where
-    solves-length : length (D .roots) ≡ t .m
+    pub solves-length : length (D .roots) ≡ t .m
     solves-length = eqb→eq (length (D .roots)) (t .m) (formed-length inv (t .n) (t .m) D (s .formed))
 
     solves-good : Good inv (t .n) D
@@ -83,7 +83,7 @@ module _ (inv : Bool) (t : Table) (order : List ℕ) where
         (all-at (refers inv D) (D .roots) (formed-roots inv (t .n) (t .m) D (s .formed)) j 0 (omega (arith, solves-length)))
 
     -- a root's function is its output's filled function: some drawn row has any bits that the levels may see
-    root-function : T (isOrder (t .n) order) → (j : ℕ) → j < t .m
+    pub root-function : T (isOrder (t .n) order) → (j : ℕ) → j < t .m
         → getD (filled inv t order) j (full false (t .n)) ≡ function inv D (t .n) 0 (getD (D .roots) j 0)
     unfolding Computes filledBit
     root-function o j h =

@@ -24,7 +24,7 @@ and-none : (a b : Bool) → a ≡ false → (a && b) ≡ false
 and-none a b e = ap (λ c. c && b) e
 
 -- what doesn't vary is a constant
-steady : {d : ℕ} (t : Tree Bool d) → varies t ≡ false → t ≡ full (first t) d
+pub steady : {d : ℕ} (t : Tree Bool d) → varies t ≡ false → t ≡ full (first t) d
 steady {d} t e = same→eq t (full (first t) d) (split (same t (full (first t) d)) (λ q. to-T q) (λ q. absurd-T (to-not q) e))
 
 steady-half : {d : ℕ} (b : Bool) (t : Tree Bool (suc d)) → varies t ≡ false → varies (half b t) ≡ false

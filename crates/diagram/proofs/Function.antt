@@ -3,19 +3,22 @@
 -- Assumes nothing.
 use mathlib.Core.Path.{_≡_, refl, sym, ap, _∙_, subst}
 use mathlib.Core.Bool.{Bool, true, false, not, cond, _&&_}
+use mathlib.Core.List.{List}
 use Prim.Native.Nat.{ℕ, zero, suc, _+_, _≤_, _<_}
-use native.Mathlib.Nat.{le-of-suc-le-suc, not-suc-le-zero, le-of-lt, le-antisymm}
+use native.Mathlib.Nat.{le-refl, le-of-suc-le-suc, not-suc-le-zero, le-of-lt, le-antisymm}
 use native.Mathlib.Omega.{arith}
 use lib.Dec.{T, eqb, ltb, eqb→eq, eqb-refl, ltb→lt, nltb→le}
 use lib.ListN.{length}
 use Rattle.diagram.specs.Lists.{flip, all}
 use Rattle.diagram.specs.Tree.{Tree, leaf, node, half, at, inverted}
 use Rattle.diagram.specs.Diagram.{Node, Diagram, edge, target, inverts, nodeAt, later, nodeGood, gives}
+use Rattle.diagram.specs.Network.{refer}
 use Rattle.diagram.proofs.Bools.{split, to-T, to-not, absurd-T, and-l, and-r}
 use Rattle.diagram.proofs.Lists.{all-at}
-use Rattle.diagram.proofs.Tree.{at-inverted, cond-same}
+use Rattle.diagram.proofs.Tree.{at-inverted, tree-ext, cond-same}
+use Rattle.diagram.proofs.Known.{Known}
 use Rattle.diagram.proofs.Reference.{target-lt, from, from-node, from-reached, from-constant}
-use Rattle.diagram.proofs.Right.{gives-node, at-half}
+use Rattle.diagram.proofs.Right.{Holds, gives-node, at-half, gives-refer, from-refer}
 
 -- whether the reference is to a node at level p
 abbrev pub here : Bool → Diagram → ℕ → ℕ → Bool
@@ -60,7 +63,7 @@ module _ (inv : Bool) (n : ℕ) (D : Diagram) (good : Good inv n D) where
           and-l (later inv D (nodeAt inv D r .level) (nodeAt inv D r .low)) (later inv D (nodeAt inv D r .level) (nodeAt inv D r .high)) s
 
   -- from the last level on there are only constants
-  constant-last : (r : ℕ) → T (from inv D n r) → ltb r 2 ≡ true
+  pub constant-last : (r : ℕ) → T (from inv D n r) → ltb r 2 ≡ true
   constant-last r t =
       split (ltb r 2) (λ e. e) (λ e. absurd (lt-absurd (node-level n r t e) (from-reached inv D n r t e .deep)))
     where
@@ -126,3 +129,12 @@ function-gives inv n D good a (suc d) p r (suc k) e h t =
     ∙ sym (at-here inv D a d p r q))
     (λ q. function-gives inv n D good a d (suc p) r (suc k) (omega arith) (le-of-lt h) (from-next inv n D good p r t q)
     ∙ sym (at-past inv D a d p r q))
+
+-- what the reference to a known function computes is the function
+pub function-refer : (inv : Bool) (n : ℕ) (D : Diagram) → Good inv n D → (d p base : ℕ) (ts : List (Tree Bool d)) (t : Tree Bool d)
+    → p + d ≡ n → Holds inv D d p base ts → Known inv ts t → function inv D d p (refer inv d base ts t) ≡ t
+function-refer inv n D good d p base ts t e h k =
+    let r = refer inv d base ts t in
+    tree-ext p (function inv D d p r) t
+    (λ a. sym (function-gives inv n D good a d p r d e (le-refl d) (from-refer inv D d p base ts t h k))
+    ∙ gives-refer inv D a d p base ts t h k d (le-refl d))

@@ -54,31 +54,31 @@ inverted-and true true false t = ap (inverted true) (inverted-false t)
 inverted-and true true true t = inverted-inverted true t ∙ sym (inverted-false t)
 
 -- the function of a node at level p
-abbrev nodeFunction : Bool → Diagram → (d : ℕ) → ℕ → Node → Tree Bool (suc d)
+abbrev pub nodeFunction : Bool → Diagram → (d : ℕ) → ℕ → Node → Tree Bool (suc d)
 nodeFunction inv D d p c = node (function inv D d (suc p) (c .low)) (function inv D d (suc p) (c .high))
 
-half-node : (inv : Bool) (D : Diagram) (d p : ℕ) (c : Node) (b : Bool)
+pub half-node : (inv : Bool) (D : Diagram) (d p : ℕ) (c : Node) (b : Bool)
     → half b (nodeFunction inv D d p c) ≡ function inv D d (suc p) (edge b c)
 half-node inv D d p c true = refl
 half-node inv D d p c false = refl
 
-function-here : (inv : Bool) (D : Diagram) (d p r : ℕ) → here inv D p r ≡ true
+pub function-here : (inv : Bool) (D : Diagram) (d p r : ℕ) → here inv D p r ≡ true
     → function inv D (suc d) p r ≡ inverted (inverts inv r) (nodeFunction inv D d p (nodeAt inv D r))
 function-here inv D d p r e = rw e
 
-function-past : (inv : Bool) (D : Diagram) (d p r : ℕ) → here inv D p r ≡ false
+pub function-past : (inv : Bool) (D : Diagram) (d p r : ℕ) → here inv D p r ≡ false
     → function inv D (suc d) p r ≡ node (function inv D d (suc p) r) (function inv D d (suc p) r)
 function-past inv D d p r e = rw e
 
 -- what it means that a reference is to a node at p
-here-big : (inv : Bool) (D : Diagram) (p r : ℕ) → here inv D p r ≡ true → ltb r 2 ≡ false
+pub here-big : (inv : Bool) (D : Diagram) (p r : ℕ) → here inv D p r ≡ true → ltb r 2 ≡ false
 here-big inv D p r e =
     split (ltb r 2) (λ z. absurd-T (subst (λ (b : Bool). T (not b && eqb (nodeAt inv D r .level) p)) z (to-T e)) refl) (λ z. z)
 
-here-level : (inv : Bool) (D : Diagram) (p r : ℕ) → here inv D p r ≡ true → T (eqb (nodeAt inv D r .level) p)
+pub here-level : (inv : Bool) (D : Diagram) (p r : ℕ) → here inv D p r ≡ true → T (eqb (nodeAt inv D r .level) p)
 here-level inv D p r e = and-r (not (ltb r 2)) (eqb (nodeAt inv D r .level) p) (to-T e)
 
-half-both : {d : ℕ} (b : Bool) (x : Tree Bool d) → half b (node x x) ≡ x
+pub half-both : {d : ℕ} (b : Bool) (x : Tree Bool d) → half b (node x x) ≡ x
 half-both true x = refl
 half-both false x = refl
 

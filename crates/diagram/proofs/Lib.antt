@@ -2,6 +2,8 @@ pub mod Bools
 pub mod Lists
 pub mod Numbers
 pub mod UpTo
+pub mod Equal
+pub mod Distinct
 pub mod Bits
 pub mod Tree
 pub mod Merge
@@ -27,10 +29,18 @@ pub mod Sift
 pub mod Pass
 pub mod Levels
 pub mod FirstSeen
+pub mod Less
 pub mod SeenClasses
 pub mod Rising
 pub mod Followed
 pub mod Refers
 pub mod TracedLevel
 pub mod Traced
+pub mod Reduced
+pub mod Walk
+pub mod NetworkReduced
+pub mod Spread
+pub mod StructureGives
+pub mod GivesStructure
+pub mod Canonical
 pub mod Starred

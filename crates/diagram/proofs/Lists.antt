@@ -1,6 +1,6 @@
 -- Laws of membership, index and first-seen sequence, over any test for equality; and the pigeonhole.
 -- Assumes nothing.
-use mathlib.Core.Path.{_≡_, refl, sym, ap, _∙_, subst}
+use mathlib.Core.Path.{_≡_, refl, sym, ap, ap₂, _∙_, subst}
 use mathlib.Core.Bool.{Bool, true, false, not, _&&_, _||_, and-assoc}
 use mathlib.Core.List.{List, [], _∷_, _++_, map}
 use mathlib.Core.Logic.{⊎-elim}
@@ -9,7 +9,7 @@ use native.Mathlib.Nat.{le-of-suc-le-suc, not-suc-le-zero, le-trans, le-step}
 use lib.Dec.{T, eqb, eqb→eq, eqb-refl}
 use lib.ListN.{length, getD}
 use Rattle.diagram.specs.Lists.{all, keep, has, index, without, firsts, distinct}
-use Rattle.diagram.proofs.Bools.{split, of-T, of-not, to-T, to-not, absurd-T, and-T, and-l, and-r, or-l, or-r, or-cases}
+use Rattle.diagram.proofs.Bools.{split, of-T, of-not, to-T, to-not, absurd-T, and-T, and-l, and-r, or-l, or-r, or-cases, both-ways}
 
 -- a test that tells whether two are equal
 pub record Equality {A : Type 0} (eq : A → A → Bool) : Type 0 where
@@ -129,6 +129,10 @@ module _ {A : Type 0} (eq : A → A → Bool) (E : Equality eq) where
       (λ e. absurd-T (subst (λ (z : A). T (has eq z xs)) (E .sound (getD xs i d) x (to-T e)) (has-getD xs i d (le-of-suc-le-suc h)))
       (apart-first x xs t))
       (λ e. rw e (ap suc (index-getD xs i d (apart-rest x xs t) (le-of-suc-le-suc h))))
+
+  -- where none stands twice, equal elements stand at equal indices
+  pub getD-apart : (xs : List A) (i j : ℕ) (d : A) → T (distinct eq xs) → i < length xs → j < length xs → getD xs i d ≡ getD xs j d → i ≡ j
+  getD-apart xs i j d t h k e = sym (index-getD xs i d t h) ∙ ap (λ (x : A). index eq x xs) e ∙ index-getD xs j d t k
 
   -- an element taken out
 
@@ -255,3 +259,26 @@ has-map eqA EA eqB EB f x (y ∷ ys) h =
     ⊎-elim (λ s. or-l (eqB (f x) (f y)) (has eqB (f x) (map f ys)) (subst (λ z. T (eqB (f x) (f z))) (EA .sound x y s) (EB .self (f x))))
     (λ s. or-r (eqB (f x) (f y)) (has eqB (f x) (map f ys)) (has-map eqA EA eqB EB f x ys s))
     (or-cases (eqA x y) (has eqA x ys) h)
+
+-- two functions that agree on a list
+pub map-cong : {A B : Type 0} (eq : A → A → Bool) (E : Equality eq) (f g : A → B) (xs : List A)
+    → ((x : A) → T (has eq x xs) → f x ≡ g x) → map f xs ≡ map g xs
+map-cong eq E f g [] e = refl
+map-cong eq E f g (x ∷ xs) e =
+    ap₂ _∷_ (e x (has-here eq E x xs)) (map-cong eq E f g xs (λ y h. e y (or-r (eq y x) (has eq y xs) h)))
+
+-- what g undoes of f
+pub map-back : {A B : Type 0} (eq : A → A → Bool) (E : Equality eq) (g : B → A) (f : A → B) (xs : List A)
+    → ((x : A) → T (has eq x xs) → g (f x) ≡ x) → map g (map f xs) ≡ xs
+map-back eq E g f [] e = refl
+map-back eq E g f (x ∷ xs) e = ap₂ _∷_ (e x (has-here eq E x xs)) (map-back eq E g f xs (λ y h. e y (or-r (eq y x) (has eq y xs) h)))
+
+-- where f tells x from the elements of a list, f x stands in the mapped list where x does
+pub index-map : {A B : Type 0} (eqA : A → A → Bool) (EA : Equality eqA) (eqB : B → B → Bool) (EB : Equality eqB) (f : A → B) (x : A)
+    (xs : List A) → ((y : A) → T (has eqA y xs) → f x ≡ f y → x ≡ y) → index eqB (f x) (map f xs) ≡ index eqA x xs
+index-map eqA EA eqB EB f x [] d = refl
+index-map eqA EA eqB EB f x (y ∷ ys) d =
+    let e : eqB (f x) (f y) ≡ eqA x y =
+    both-ways (eqB (f x) (f y)) (eqA x y) (λ t. eq-same eqA EA (d y (has-here eqA EA y ys) (EB .sound (f x) (f y) t)))
+    (λ t. eq-same eqB EB (ap f (EA .sound x y t))) in
+    rw (e, index-map eqA EA eqB EB f x ys (λ z h. d z (or-r (eqA z y) (has eqA z ys) h)))

@@ -4,10 +4,11 @@ use mathlib.Core.Path.{_≡_, refl}
 use mathlib.Core.Bool.{Bool, true, false, _&&_, _||_}
 use Prim.Native.Nat.{ℕ, suc, _+_, _*_, _%_, _≤_, _<_}
 use native.Mathlib.Omega.{arith}
-use lib.Dec.{T, ltb, leb, leb→le, le→leb, ltb→lt}
+use lib.Dec.{T, eqb, ltb, leb, eqb→eq, leb→le, le→leb, ltb→lt}
 use Rattle.diagram.specs.Diagram.{Diagram, target, inverts, largest, nodeAt, refers}
 use Rattle.diagram.specs.Network.{reference}
 use Rattle.diagram.proofs.Bools.{split, to-T, and-T, and-l, and-r, or-r}
+use Rattle.diagram.proofs.Numbers.{differ}
 
 pub not-below : (m n : ℕ) → n ≤ m → ltb m n ≡ false
 not-below m n h = split (ltb m n) (λ e. let k = ltb→lt m n (to-T e) in absurd (omega arith)) (λ e. e)
@@ -25,6 +26,14 @@ inverts-reference false k i = refl
 pub inverts-inv : (inv : Bool) (r : ℕ) → inverts inv r ≡ inv && inverts inv r
 inverts-inv true r = refl
 inverts-inv false r = refl
+
+-- a reference above 1 by its node and whether it inverts
+pub reference-target : (inv : Bool) (r : ℕ) → 2 ≤ r → reference inv (target inv r) (inverts inv r) ≡ r
+reference-target false r h = omega arith
+reference-target true r h =
+    split (eqb (r % 2) 1)
+    (λ e. let q = eqb→eq (r % 2) 1 (to-T e) in rw e (omega arith))
+    (λ e. let q = differ (r % 2) 1 e in rw e (omega arith))
 
 pub reference-big : (inv : Bool) (k : ℕ) (i : Bool) → 2 ≤ reference inv k i
 reference-big true k true = omega arith

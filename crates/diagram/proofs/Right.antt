@@ -221,6 +221,16 @@ network-gives inv n ts a j t₀ h =
     ∙ gives-refer inv (network inv n ts) a n 0 0 ts (getD ts j t₀) (network-holds inv n ts)
     (known-of inv ts (getD ts j t₀) (has-getD same same-equality ts j t₀ h)) n (le-refl n)
 
+-- the low edge of a class's node doesn't invert
+pub class-even : (inv : Bool) (d base : ℕ) (ts : List (Tree Bool (suc d))) (x : Tree Bool (suc d)) → T (has same x (classes inv ts))
+    → inverts inv (refer inv d base (halves ts) (half false x)) ≡ false
+class-even inv d base ts x h =
+    refer-inverts inv d base (halves ts) (half false x) ∙ ap (λ b. inv && b) (first-half x) ∙ even inv (classes-normal inv ts x h)
+  where
+    even : (i : Bool) → normal i x ≡ x → (i && first x) ≡ false
+    even true e = ap first (sym e) ∙ first-normal x
+    even false e = refl
+
 -- 'Its function is the member whose all-zero row is 0, so its 0-arrow is even'
 pub low-even : (d p base : ℕ) (ts : List (Tree Bool d)) → T (all (λ c. not (inverts true (c .low))) (nodes true d p base ts))
 unfolding nodes
@@ -229,6 +239,5 @@ low-even (suc d) p base ts =
     let b = base + length (classes true ts) in
     all-append (λ c. not (inverts true (c .low))) (map (nodeOf true p b (halves ts)) (classes true ts)) (nodes true d (suc p) b (halves ts))
     (all-map same same-equality (λ c. not (inverts true (c .low))) (nodeOf true p b (halves ts)) (classes true ts)
-    (λ x h. to-not (refer-inverts true d b (halves ts) (half false x) ∙ first-half x ∙ ap first (sym (classes-normal true ts x h))
-    ∙ first-normal x)))
+    (λ x h. to-not (class-even true d b ts x h)))
     (low-even d (suc p) b (halves ts))

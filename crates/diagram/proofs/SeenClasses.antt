@@ -1,52 +1,18 @@
 -- The classes of a list of segments are those of the functions seen first that depend on the top variable.
 -- Assumes nothing.
-use mathlib.Core.Path.{_≡_, refl, sym, ap, _∙_, subst}
-use mathlib.Core.Bool.{Bool, true, false, not, cond}
+use mathlib.Core.Path.{_≡_, refl, sym, ap, _∙_}
+use mathlib.Core.Bool.{Bool, true, false}
 use mathlib.Core.List.{List, [], _∷_, map}
-use mathlib.Core.Logic.{⊎-elim}
 use Prim.Native.Nat.{ℕ, suc}
 use lib.Dec.{T}
-use Rattle.diagram.specs.Lists.{all, keep, has, without, firsts}
+use Rattle.diagram.specs.Lists.{all, keep, has, firsts}
 use Rattle.diagram.specs.Tree.{Tree, same}
 use Rattle.diagram.specs.Network.{depends, normal, classes}
-use Rattle.diagram.proofs.Bools.{both-ways, split, to-T, absurd-T, and-T, or-r, or-cases}
-use Rattle.diagram.proofs.Lists.{Equality, all-has, firsts-has, without-none, keep-cong}
+use Rattle.diagram.proofs.Bools.{split, to-T, absurd-T, and-T}
+use Rattle.diagram.proofs.Lists.{all-has, firsts-has}
+use Rattle.diagram.proofs.Less.{keep-all, less, less-more, less-again, less-other}
 use Rattle.diagram.proofs.Tree.{same-equality, depends-normal, varies}
 use Rattle.diagram.proofs.FirstSeen.{steady-depends, isNew, fresh}
-
-module _ {A : Type 0} where
-  keep-all : (xs : List A) → keep (λ x. true) xs ≡ xs
-  keep-all [] = refl
-  keep-all (x ∷ xs) = ap (λ (l : List A). x ∷ l) (keep-all xs)
-
--- those of xs that don't stand in gs
-abbrev less : {A : Type 0} → (A → A → Bool) → List A → List A → List A
-less eq gs xs = keep (λ x. not (has eq x gs)) xs
-
-module _ {A : Type 0} (eq : A → A → Bool) (E : Equality eq) where
-  eq-swap : (x y : A) → eq x y ≡ eq y x
-  eq-swap x y =
-      both-ways (eq x y) (eq y x)
-      (λ t. subst (λ z. T (eq z x)) (E .sound x y t) (E .self x)) (λ t. subst (λ z. T (eq z y)) (E .sound y x t) (E .self y))
-
-  less-more : (n : A) (gs xs : List A) → less eq gs (without eq n xs) ≡ less eq (n ∷ gs) xs
-  less-more n gs [] = refl
-  less-more n gs (x ∷ xs) =
-      rw (eq-swap x n)
-      (split (eq n x) (λ e. rw e (less-more n gs xs))
-      (λ e. rw e (ap (λ (l : List A). cond (not (has eq x gs)) (x ∷ l) l) (less-more n gs xs))))
-
-  -- one that stands in gs already
-  less-again : (n : A) (gs xs : List A) → T (has eq n gs) → less eq (n ∷ gs) xs ≡ less eq gs xs
-  less-again n gs xs t =
-      keep-cong eq E (λ x. not (has eq x (n ∷ gs))) (λ x. not (has eq x gs)) xs
-      (λ x _. ap not (both-ways (has eq x (n ∷ gs)) (has eq x gs)
-      (λ h. ⊎-elim (λ s. subst (λ z. T (has eq z gs)) (sym (E .sound x n s)) t) (λ s. s) (or-cases (eq x n) (has eq x gs) h))
-      (λ h. or-r (eq x n) (has eq x gs) h)))
-
-  -- one that doesn't stand in xs
-  less-other : (n : A) (gs xs : List A) → has eq n xs ≡ false → less eq (n ∷ gs) xs ≡ less eq gs xs
-  less-other n gs xs e = sym (less-more n gs xs) ∙ ap (less eq gs) (without-none eq E n xs e)
 
 module _ {d : ℕ} (inv : Bool) where
   -- the classes of the functions that depend

@@ -1,5 +1,5 @@
 -- What f gives of each number below n, as a list: how long it is, what it has at an index, its first elements, one element more,
--- such a list in two parts, and two that are equal.
+-- such a list in two parts, two that are equal, and a part of a list by its indices.
 -- Assumes nothing.
 use mathlib.Core.Path.{_≡_, refl, sym, ap, ap₂, _∙_}
 use mathlib.Core.List.{List, [], _∷_, _++_, map, map-append, map-id, append-assoc, append-nil}
@@ -8,8 +8,8 @@ use native.Mathlib.Nat.{add-zero, add-suc, not-suc-le-zero}
 use native.Mathlib.Numerals.{add-one}
 use native.Mathlib.Omega.{arith}
 use lib.Dec.{eqb, eqb→eq}
-use lib.ListN.{length, getD, take, length-take, length-map, List·getD-append}
-use lib.Seq.{getD-at, getD-take, ext-getD}
+use lib.ListN.{length, getD, take, drop, length-take, length-map, List·getD-append}
+use lib.Seq.{getD-at, getD-take, ext-getD, drop-cons}
 use Rattle.diagram.specs.Lists.{upTo}
 use Rattle.diagram.proofs.Bools.{split, to-T}
 use Rattle.diagram.proofs.Numbers.{below-other, length-upTo}
@@ -57,3 +57,15 @@ map-upTo-cong {A} (suc n) f g e =
 
 pub getD-upTo : (n j : ℕ) → j < n → getD (upTo n) j 0 ≡ j
 getD-upTo n j h = ap (λ l. getD l j 0) (sym (map-id (upTo n))) ∙ getD-map-upTo (λ k. k) n j 0 h
+
+-- the n elements from index b on, then those after them
+pub upTo-drop : {A : Type 0} (l : List A) (b n : ℕ) (x : A) → b + n ≤ length l
+    → map (λ i. getD l (b + i) x) (upTo n) ++ drop (b + n) l ≡ drop b l
+upTo-drop l b zero x h = ap (λ k. drop k l) (add-zero b)
+upTo-drop {A} l b (suc n) x h =
+    let f : ℕ → A = λ i. getD l (b + i) x in
+    ap (λ (m : List A). m ++ drop (b + suc n) l) (map-append f (upTo n) (n ∷ []))
+    ∙ append-assoc (map f (upTo n)) (f n ∷ []) (drop (b + suc n) l)
+    ∙ ap (λ (k : ℕ). map f (upTo n) ++ (f n ∷ drop k l)) (add-suc b n)
+    ∙ ap (λ (m : List A). map f (upTo n) ++ m) (sym (drop-cons l (b + n) x (omega arith)))
+    ∙ upTo-drop l b n x (omega arith)

@@ -7,7 +7,7 @@ use mathlib.Core.List.{List}
 use Prim.Native.Nat.{ℕ, zero, suc, _+_, _*_, _-_, _/_, _%_}
 use lib.Dec.{eqb, ltb, leb}
 use lib.ListN.{length, getD}
-use Rattle.diagram.specs.Lists.{flip, all}
+use Rattle.diagram.specs.Lists.{flip, all, equal}
 
 pub record Node : Type 0 where
   pub level : ℕ
@@ -17,6 +17,13 @@ pub record Node : Type 0 where
 pub record Diagram : Type 0 where
   pub nodes : List Node
   pub roots : List ℕ
+
+abbrev pub sameNode : Node → Node → Bool
+sameNode c e = eqb (c .level) (e .level) && (eqb (c .low) (e .low) && eqb (c .high) (e .high))
+
+-- the same nodes and the same roots
+abbrev pub sameDiagram : Diagram → Diagram → Bool
+sameDiagram D E = equal sameNode (D .nodes) (E .nodes) && equal eqb (D .roots) (E .roots)
 
 abbrev pub edge : Bool → Node → ℕ
 edge false c = c .low

@@ -6,6 +6,7 @@ pub mod Network
 pub mod inner
 pub mod Order
 pub mod Table
+pub mod Canonical
 pub mod Sift
 pub mod Demands
 pub mod Bound

@@ -50,6 +50,13 @@ module _ {A : Type 0} (eq : A → A → Bool) where
   distinct [] = true
   distinct (x ∷ xs) = not (has x xs) && distinct xs
 
+  -- the same elements in the same sequence
+  abbrev pub equal : List A → List A → Bool
+  equal [] [] = true
+  equal [] (y ∷ ys) = false
+  equal (x ∷ xs) [] = false
+  equal (x ∷ xs) (y ∷ ys) = eq x y && equal xs ys
+
 -- 0 to n - 1
 abbrev pub upTo : ℕ → List ℕ
 upTo zero = []

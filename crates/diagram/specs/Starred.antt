@@ -5,9 +5,9 @@ use mathlib.Core.List.{List, [], _∷_, map}
 use Prim.Native.Nat.{ℕ, _^_}
 use lib.Dec.{eqb, leb}
 use lib.ListN.{length, getD}
-use Rattle.diagram.specs.Lists.{upTo}
+use Rattle.diagram.specs.Lists.{upTo, equal}
 use Rattle.diagram.specs.Fill.{Row}
-use Rattle.diagram.specs.Diagram.{Node}
+use Rattle.diagram.specs.Diagram.{Node, sameNode}
 use Rattle.diagram.specs.Table.{Table, filledBit, networkOf, cost}
 use Rattle.diagram.specs.Sift.{sift}
 
@@ -38,15 +38,6 @@ pub data Claim : Type 0 where
   sifts : Table → List ℕ → ℕ → List ℕ → ℕ → Claim
   -- whether a board of this size is enough
   fits : Table → List ℕ → ℕ → Bool → Claim
-
-abbrev pub equal : {A : Type 0} → (A → A → Bool) → List A → List A → Bool
-equal eq [] [] = true
-equal eq [] (y ∷ ys) = false
-equal eq (x ∷ xs) [] = false
-equal eq (x ∷ xs) (y ∷ ys) = eq x y && equal eq xs ys
-
-abbrev pub sameNode : Node → Node → Bool
-sameNode c e = eqb (c .level) (e .level) && (eqb (c .low) (e .low) && eqb (c .high) (e .high))
 
 -- the filled table, each output listed from row 0
 abbrev pub filledRows : Table → List ℕ → List (List Bool)

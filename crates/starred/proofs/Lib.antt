@@ -1,5 +1,4 @@
 pub mod Alike
-pub mod Equal
 pub mod HeldAlike
 pub mod Answered
 pub mod Shown

@@ -7,14 +7,15 @@ use Prim.Native.Nat.{ℕ, _*_, _<_, _^_}
 use borrow.Author.Tests.{le-leb}
 use lib.Dec.{T, eqb, leb, eqb→eq}
 use lib.ListN.{length, getD, drop}
-use Rattle.diagram.specs.Lists.{upTo}
-use Rattle.diagram.specs.Diagram.{Node, Diagram}
+use Rattle.diagram.specs.Lists.{upTo, equal}
+use Rattle.diagram.specs.Diagram.{Node, Diagram, sameNode}
 use Rattle.diagram.specs.Network.{network, count}
 use Rattle.diagram.specs.Table.{Table, filledBit, networkOf, cost}
 use Rattle.diagram.specs.Sift.{sift}
-use Rattle.diagram.specs.Starred.{Claim, builds, costs, sifts, fits, holds, equal, sameNode, filledRows, starred}
+use Rattle.diagram.specs.Starred.{Claim, builds, costs, sifts, fits, holds, filledRows, starred}
 use Rattle.diagram.proofs.Bools.{and-l, and-r, beq→eq}
 use Rattle.diagram.proofs.Lists.{all-at}
+use Rattle.diagram.proofs.Equal.{nodes-equality, numbers-equality, rows-equality}
 use Rattle.diagram.proofs.Starred.{starred-hold}
 use Rattle.diagram.proofs.UpTo.{getD-map-upTo}
 use Rattle.table.specs.declared.Answer.the-variants.{Done, TooSmall}
@@ -22,7 +23,6 @@ use Rattle.table.specs.Calls.{over}
 use Rattle.network.specs.Lent.{numbersOf, rootsSize}
 use Rattle.network.specs.Build.{capacity, heldNetwork, wanted}
 use Rattle.starred.specs.Shown.{Shown}
-use Rattle.starred.proofs.Equal.{numbers-sound, nodes-sound, rows-sound}
 use Rattle.starred.proofs.HeldAlike.{held-cost, held-network, held-bit, held-sift, held-sift-cost}
 use Rattle.starred.proofs.Answered.{counted, sifted-answer, sifted-order, built-answer, built-cells, built-roots}
 
@@ -47,10 +47,10 @@ module _ (t : Table) (order : List ℕ) (rows : List (List Bool)) (nodes : List 
       let b = equal sameNode (networkOf true t order .nodes) nodes in
       let c = equal eqb (networkOf true t order .roots) refs in
       let y : T (b && c) = and-r a (b && c) x in
-      let q : networkOf true t order .nodes ≡ nodes = nodes-sound (networkOf true t order .nodes) nodes (and-l b c y) in
+      let q : networkOf true t order .nodes ≡ nodes = nodes-equality .sound (networkOf true t order .nodes) nodes (and-l b c y) in
       let ns : heldNetwork s values care .nodes ≡ nodes = ap (λ (D : Diagram). D .nodes) (held-network h) ∙ q in
       let rs : heldNetwork s values care .roots ≡ refs =
-      ap (λ (D : Diagram). D .roots) (held-network h) ∙ numbers-sound (networkOf true t order .roots) refs (and-r b c y) in
+      ap (λ (D : Diagram). D .roots) (held-network h) ∙ numbers-equality .sound (networkOf true t order .roots) refs (and-r b c y) in
       let k : wanted s values care ≡ length nodes = held-cost h ∙ cost-length t order ∙ ap length q in
       let fit : leb (wanted s values care) (capacity cells) ≡ true = rw k (le-leb (length nodes) (capacity cells) room) in
       record {
@@ -62,7 +62,7 @@ module _ (t : Table) (order : List ℕ) (rows : List (List Bool)) (nodes : List 
             built-roots s values care work roots cells long (h .staged) fit
             ∙ ap (λ (xs : List ℕ). over (λ j. getD xs j 0) rootsSize roots) rs;
         filled = λ j r in-m in-n. held-bit h j r
-            ∙ listed t order rows (rows-sound (filledRows t order) rows (and-l a (b && c) x)) j r
+            ∙ listed t order rows (rows-equality .sound (filledRows t order) rows (and-l a (b && c) x)) j r
             (subst (λ (z : ℕ). j < z) (h .outputs) in-m) (subst (λ (z : ℕ). r < 2 ^ z) (h .inputs) in-n);
       }
 
@@ -82,7 +82,9 @@ shown-sifts t order v left c x s values care work h long below =
       answer =
           sifted-answer s values care work long (h .staged) v p
           ∙ ap Done (held-sift-cost h v ∙ eqb→eq (cost t (sift t v order)) c (and-r a b x));
-      order = sifted-order s values care work long (h .staged) v p ∙ held-sift h v ∙ numbers-sound (sift t v order) left (and-l a b x);
+      order =
+          sifted-order s values care work long (h .staged) v p ∙ held-sift h v
+          ∙ numbers-equality .sound (sift t v order) left (and-l a b x);
     }
 
 shown-fits : (t : Table) (order : List ℕ) (b : ℕ) (fit : Bool) → T (holds (fits t order b fit)) → Shown (fits t order b fit)
