@@ -44,9 +44,12 @@ goodCheck file k = eqb (checkOf file k) (byte file k checkAt + 256 * byte file k
 unfoldable pub goodNumber : List ℕ → ℕ → Bool
 goodNumber file k = eqb (byte file k 1) 0 && eqb (byte file k 2 + 256 * byte file k 3) k
 
--- 'All other content is zero': of block k, the bytes from byte `from` to the check
-unfoldable pub unusedZero : List ℕ → ℕ → ℕ → Bool
-unusedZero file k from = all (λ i. eqb (byte file k (from + i)) 0) (upTo (checkAt - from))
+-- 'All other content is zero': of block k, the bytes from byte `from` to before byte `end`, and those from byte `from` to the check
+unfoldable pub unusedBetween : List ℕ → ℕ → ℕ → ℕ → Bool
+unusedBetween file k from end = all (λ i. eqb (byte file k (from + i)) 0) (upTo (end - from))
+
+abbrev pub unusedZero : List ℕ → ℕ → ℕ → Bool
+unusedZero file k from = unusedBetween file k from checkAt
 
 -- bit i of block k's content
 unfoldable pub contentBit : List ℕ → ℕ → ℕ → Bool

@@ -1,4 +1,5 @@
 pub mod Bits
 pub mod Block
 pub mod Numbers
+pub mod Sealed
 pub mod inner

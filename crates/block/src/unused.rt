@@ -5,21 +5,28 @@ use crate::CONTENT_AT;
 use crate::block::block_byte;
 ghost use mathlib.Core.Path.{_≡_};
 ghost use Prim.Native.Nat.{_<_};
-ghost use Rattle.block.specs.Block.{contentSize, unusedZero, unusedBitsZero};
+ghost use Rattle.block.specs.Block.{contentSize, unusedBetween, unusedZero, unusedBitsZero};
 ghost use Rattle.block.specs.inner.UnusedByte.{unusedByteZero};
 
-// Whether the bytes of block k from byte `from` to the check are zero.
-pub fn unused_zero(file: &[u8], k: usize, from: usize) -> bool
-    ensures { λ r. ⌜ r ≡ unusedZero (now (file .entry)) k from ⌝ }
+// Whether the bytes of block k from byte `from` to before byte `end` are zero.
+pub fn unused_between(file: &[u8], k: usize, from: usize, end: usize) -> bool
+    ensures { λ r. ⌜ r ≡ unusedBetween (now (file .entry)) k from end ⌝ }
 {
     let mut i = from;
-    while i < CHECK_AT {
+    while i < end {
         if block_byte(file, k, i) != 0 {
             return false;
         }
         i += 1;
     }
     true
+}
+
+// Whether the bytes of block k from byte `from` to the check are zero.
+pub fn unused_zero(file: &[u8], k: usize, from: usize) -> bool
+    ensures { λ r. ⌜ r ≡ unusedZero (now (file .entry)) k from ⌝ }
+{
+    unused_between(file, k, from, CHECK_AT)
 }
 
 // Whether byte j of block k's content has no bit set from bit `used` of the content on.

@@ -15,13 +15,14 @@ use Rattle.diagram.proofs.Bools.{split, to-T, absurd-T, and-l, and-r}
 use Rattle.table.specs.declared.Answer.{Answer}
 use Rattle.table.specs.declared.Answer.the-variants.{Done, BadLength, BadCheck, BadKind}
 use Rattle.table.specs.declared.Answer.the-variants.{BadInputs, BadOutputs, BadOrder, BadContent}
-use Rattle.table.specs.Answer.{unless, unlessRefused, done}
+use Rattle.table.specs.Answer.{unless, unlessRefused, firstRefusal, done}
 use Rattle.block.specs.Block.{blockSize, wholeBlocks, goodCheck, unusedZero, unusedBitsZero}
-use Rattle.table.specs.File.{goodKind, fileInputs, fileOutputs, fileOrder, fieldsAnswer, headingAnswer, streamBits, streamBlocks}
-use Rattle.table.specs.File.{firstBit, tailAnswer, blockAnswer, blocksAnswer, streamsAnswer, fileAnswer}
+use Rattle.table.specs.File.{goodKind, fileInputs, fileOutputs, fileOrder, shapeAnswer, fieldsAnswer, headingAnswer}
+use Rattle.table.specs.File.{streamBits, streamBlocks}
+use Rattle.table.specs.File.{firstBit, tailAnswer, blockAnswer, streamsAnswer, fileAnswer}
 
 -- a success passes each test
-unless-done : (ok : Bool) (refusal rest : Answer) → done refusal ≡ false → T (done (unless ok refusal rest)) → T ok × T (done rest)
+pub unless-done : (ok : Bool) (refusal rest : Answer) → done refusal ≡ false → T (done (unless ok refusal rest)) → T ok × T (done rest)
 unless-done true refusal rest e t = (tt, t)
 unless-done false refusal rest e t = absurd-T t e
 
@@ -40,49 +41,55 @@ accepted-block bits blocks file k t =
     let w = unless-done (unusedBitsZero file k (bits - firstBit blocks k)) BadContent (Done 0) refl (v .1) in
     record { check = u .0; kind = v .0; tail = w .0 }
 
-both-done : (a rest : Answer) → T (done (unlessRefused a rest)) → T (done a) × T (done rest)
+pub both-done : (a rest : Answer) → T (done (unlessRefused a rest)) → T (done a) × T (done rest)
 both-done a rest t = split (done a) (λ e. (to-T e, rw e at t)) (λ e. absurd-T {b = done a} (rw e at t) e)
 
 -- each of the `left` blocks from block k on
-accepted-from : (bits blocks : ℕ) (file : List ℕ) (k left : ℕ) → T (done (blocksAnswer bits blocks file k left))
-    → (j : ℕ) → k ≤ j → j < k + left → T (done (blockAnswer bits blocks file j))
-unfolding blocksAnswer
-accepted-from bits blocks file k zero t j h l = absurd (omega arith)
-accepted-from bits blocks file k (suc left) t j h l =
-    let u = both-done (blockAnswer bits blocks file k) (blocksAnswer bits blocks file (suc k) left) t in
-    split (eqb j k) (λ e. subst (λ (i : ℕ). T (done (blockAnswer bits blocks file i))) (sym (eqb-true j k e)) (u .0))
-    (λ e. let d : j ≢ k = eqb-false j k e in accepted-from bits blocks file (suc k) left (u .1) j (omega arith) (omega arith))
+pub accepted-from : (f : ℕ → Answer) (k left : ℕ) → T (done (firstRefusal f k left)) → (j : ℕ) → k ≤ j → j < k + left → T (done (f j))
+unfolding firstRefusal
+accepted-from f k zero t j h l = absurd (omega arith)
+accepted-from f k (suc left) t j h l =
+    let u = both-done (f k) (firstRefusal f (suc k) left) t in
+    split (eqb j k) (λ e. subst (λ (i : ℕ). T (done (f i))) (sym (eqb-true j k e)) (u .0))
+    (λ e. let d : j ≢ k = eqb-false j k e in accepted-from f (suc k) left (u .1) j (omega arith) (omega arith))
+
+-- a heading's n, m and order, whatever the kind of file
+pub record AcceptedShape (file : List ℕ) : Type 0 where
+  pub inputs : fileInputs file ≤ mostVariables
+  pub one-output : 1 ≤ fileOutputs file
+  pub outputs : fileOutputs file ≤ mostOutputs
+  pub order : T (isOrder (fileInputs file) (fileOrder file))
+
+pub accepted-shape : (file : List ℕ) → T (done (shapeAnswer file)) → AcceptedShape file
+unfolding shapeAnswer
+accepted-shape file t =
+    let n : ℕ = fileInputs file in
+    let m : ℕ = fileOutputs file in
+    let i = unless-done (leb n mostVariables) BadInputs _ refl t in
+    let o = unless-done (leb 1 m && leb m mostOutputs) BadOutputs _ refl (i .1) in
+    let p = unless-done (isOrder n (fileOrder file)) BadOrder (Done 0) refl (o .1) in
+    record {
+      inputs = leb→le n mostVariables (i .0);
+      one-output = leb→le 1 m (and-l (leb 1 m) (leb m mostOutputs) (o .0));
+      outputs = leb→le m mostOutputs (and-r (leb 1 m) (leb m mostOutputs) (o .0));
+      order = p .0;
+    }
 
 -- the heading of an accepted file
 pub record AcceptedHeading (file : List ℕ) : Type 0 where
   pub check : T (goodCheck file 0)
   pub kind : T (goodKind 0 file 0)
-  pub inputs : fileInputs file ≤ mostVariables
-  pub one-output : 1 ≤ fileOutputs file
-  pub outputs : fileOutputs file ≤ mostOutputs
-  pub order : T (isOrder (fileInputs file) (fileOrder file))
+  pub shape : AcceptedShape file
   pub rest : T (unusedZero file 0 (6 + fileInputs file))
 
 pub accepted-heading : (file : List ℕ) → T (done (headingAnswer file)) → AcceptedHeading file
 unfolding headingAnswer fieldsAnswer
 accepted-heading file t =
-    let n : ℕ = fileInputs file in
-    let m : ℕ = fileOutputs file in
     let c = unless-done (goodCheck file 0) BadCheck _ refl t in
     let k = unless-done (goodKind 0 file 0) BadKind _ refl (c .1) in
-    let i = unless-done (leb n mostVariables) BadInputs _ refl (k .1) in
-    let o = unless-done (leb 1 m && leb m mostOutputs) BadOutputs _ refl (i .1) in
-    let p = unless-done (isOrder n (fileOrder file)) BadOrder _ refl (o .1) in
-    let r = unless-done (unusedZero file 0 (6 + n)) BadContent (Done 0) refl (p .1) in
-    record {
-      check = c .0;
-      kind = k .0;
-      inputs = leb→le n mostVariables (i .0);
-      one-output = leb→le 1 m (and-l (leb 1 m) (leb m mostOutputs) (o .0));
-      outputs = leb→le m mostOutputs (and-r (leb 1 m) (leb m mostOutputs) (o .0));
-      order = p .0;
-      rest = r .0;
-    }
+    let p = both-done (shapeAnswer file) _ (k .1) in
+    let r = unless-done (unusedZero file 0 (6 + fileInputs file)) BadContent (Done 0) refl (p .1) in
+    record { check = c .0; kind = k .0; shape = accepted-shape file (p .0); rest = r .0 }
 
 -- an accepted file
 pub record Accepted (file : List ℕ) : Type 0 where
@@ -103,5 +110,5 @@ accepted file t =
       heading = accepted-heading file (h .0);
       long = eqb→eq (length file) (blockSize * (1 + 2 * streamBlocks n m)) (s .0);
       blocks = λ j g k. accepted-block (streamBits n m) (streamBlocks n m) file j
-          (accepted-from (streamBits n m) (streamBlocks n m) file 1 (2 * streamBlocks n m) (s .1) j g (omega arith));
+          (accepted-from (blockAnswer (streamBits n m) (streamBlocks n m) file) 1 (2 * streamBlocks n m) (s .1) j g (omega arith));
     }

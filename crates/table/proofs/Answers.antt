@@ -1,4 +1,4 @@
--- What the further blocks answer, one block at a time.
+-- What the further blocks of a file answer, one block at a time.
 -- Assumes nothing.
 use mathlib.Core.Path.{_≡_, sym, ap, ap₂, _∙_}
 use mathlib.Core.Bool.{true, false}
@@ -14,28 +14,26 @@ use Rattle.diagram.specs.Bound.{mostVariables, mostOutputs}
 use Rattle.block.specs.Block.{blockSize, contentBits}
 use Rattle.table.specs.declared.Answer.{Answer}
 use Rattle.table.specs.declared.Answer.the-variants.{Done, BadLength}
-use Rattle.table.specs.Answer.{done}
+use Rattle.table.specs.Answer.{done, firstRefusal}
 use Rattle.table.specs.inner.Sizes.{mostBits, mostBlocks}
-use Rattle.table.specs.File.{streamBlocks, blockAnswer, blocksAnswer, streamsAnswer}
+use Rattle.table.specs.File.{streamBlocks, blocksAnswer, streamsAnswer}
 
--- the blocks from block k to block `last`: block k's answer if it is a refusal, else those after it
-module _ (bits blocks : ℕ) (file : List ℕ) (last k : ℕ) where
-  pub blocks-next : k ≤ last → done (blockAnswer bits blocks file k) ≡ true
-      → blocksAnswer bits blocks file k (suc last - k) ≡ blocksAnswer bits blocks file (k + 1) (suc last - (k + 1))
-  unfolding blocksAnswer
-  blocks-next h e =
+-- the answers of k to `last`, of blocks say: that of k if it is a refusal, else those after it
+module _ (f : ℕ → Answer) (last k : ℕ) where
+  pub refusal-next : k ≤ last → done (f k) ≡ true → firstRefusal f k (suc last - k) ≡ firstRefusal f (k + 1) (suc last - (k + 1))
+  unfolding firstRefusal
+  refusal-next h e =
       let n : suc last - k ≡ suc (last - k) = omega arith in
       let o : suc last - (k + 1) ≡ last - k = omega arith in
       rw (n, o, add-one k, e)
 
-  pub blocks-stop : k ≤ last → done (blockAnswer bits blocks file k) ≡ false
-      → blocksAnswer bits blocks file k (suc last - k) ≡ blockAnswer bits blocks file k
-  unfolding blocksAnswer
-  blocks-stop h e = let n : suc last - k ≡ suc (last - k) = omega arith in rw (n, e)
+  pub refusal-stop : k ≤ last → done (f k) ≡ false → firstRefusal f k (suc last - k) ≡ f k
+  unfolding firstRefusal
+  refusal-stop h e = let n : suc last - k ≡ suc (last - k) = omega arith in rw (n, e)
 
-  pub blocks-end : last < k → blocksAnswer bits blocks file k (suc last - k) ≡ Done 0
-  unfolding blocksAnswer
-  blocks-end h = let n : suc last - k ≡ 0 = omega arith in rw n
+  pub refusal-end : last < k → firstRefusal f k (suc last - k) ≡ Done 0
+  unfolding firstRefusal
+  refusal-end h = let n : suc last - k ≡ 0 = omega arith in rw n
 
 -- how many bits a stream has, and in how many blocks
 pub stream-small : (n m : ℕ) → n ≤ mostVariables → m ≤ mostOutputs → m * 2 ^ n ≤ mostBits

@@ -12,7 +12,7 @@ use lib.Seq.{ext-getD, getD-set-same, getD-set-other}
 use Rattle.diagram.specs.Lists.{upTo}
 use Rattle.diagram.proofs.Bools.{split}
 use Rattle.diagram.proofs.Numbers.{differ}
-use Rattle.diagram.proofs.UpTo.{length-map-upTo, getD-map-upTo}
+use Rattle.diagram.proofs.UpTo.{length-map-upTo, getD-map-upTo, map-upTo-cong}
 
 -- of k elements, f 0 to f (p - 1) and zeros
 abbrev pub filled : (ℕ → ℕ) → ℕ → ℕ → List ℕ
@@ -46,3 +46,7 @@ module _ (f : ℕ → ℕ) (k p : ℕ) (h : p < k) where
   -- f p is stored
   pub filled-more : (l : List ℕ) (x : ℕ) → l ≡ filled f k p → x ≡ f p → set l p x ≡ filled f k (p + 1)
   filled-more l x e d = ap₂ (λ (m : List ℕ) (y : ℕ). set m p y) e d ∙ one-more
+
+-- all of them
+pub filled-all : (f : ℕ → ℕ) (k : ℕ) → filled f k k ≡ map f (upTo k)
+filled-all f k = map-upTo-cong k (λ q. cond (ltb q k) (f q) 0) f (λ i l. rw (lt-ltb i k l))

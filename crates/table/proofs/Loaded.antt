@@ -23,7 +23,7 @@ use Rattle.table.proofs.Over.{getD-over}
 use Rattle.table.proofs.Heading.{first-listed}
 use Rattle.block.proofs.UnusedBits.{unused-bit}
 use Rattle.table.proofs.Answers.{stream-small}
-use Rattle.table.proofs.Accepted.{AcceptedHeading, accepted}
+use Rattle.table.proofs.Accepted.{AcceptedShape, accepted}
 use Rattle.table.proofs.Held.{stage-good}
 
 -- the state
@@ -37,11 +37,11 @@ heading-kept n m order h g k o =
 
 module _ (file : List ℕ) (t : T (done (fileAnswer file))) where
   pub loaded-order : orderOf (loadedState file) ≡ fileOrder file
-  loaded-order = first-listed (λ p. byte file 0 (6 + p)) (fileInputs file) mostVariables (accepted file t .heading .inputs)
+  loaded-order = first-listed (λ p. byte file 0 (6 + p)) (fileInputs file) mostVariables (accepted file t .heading .shape .inputs)
 
   pub loaded-heading : T (goodHeading (fileInputs file) (fileOutputs file) (orderOf (loadedState file)))
   loaded-heading =
-      let a : AcceptedHeading file = accepted file t .heading in
+      let a : AcceptedShape file = accepted file t .heading .shape in
       heading-kept (fileInputs file) (fileOutputs file) (orderOf (loadedState file)) (a .inputs) (a .one-output) (a .outputs)
       (subst (λ (l : List ℕ). T (isOrder (fileInputs file) l)) (sym loaded-order) (a .order))
 
@@ -106,7 +106,7 @@ module _ (file : List ℕ) (t : T (done (fileAnswer file))) (c : Bool) (plane : 
   stream-bit h =
       let n : ℕ = fileInputs file in
       let m : ℕ = fileOutputs file in
-      let a : AcceptedHeading file = accepted file t .heading in
+      let a : AcceptedShape file = accepted file t .heading .shape in
       let l : m * 2 ^ n ≤ mostBits = stream-small n m (a .inputs) (a .outputs) in
       bit-inside file (begins c (streamBlocks n m)) (streamBlocks n m) plane i (omega arith) (omega (arith, enough-blocks n m))
 

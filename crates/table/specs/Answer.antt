@@ -1,12 +1,12 @@
 -- Sections 6 and 7 of document 01, and the refusals of document 02: the number and the value of each answer.
 -- Assumes nothing.
 use mathlib.Core.Bool.{Bool, cond}
-use Prim.Native.Nat.{ℕ}
+use Prim.Native.Nat.{ℕ, zero, suc}
 use lib.Dec.{eqb}
 use Rattle.table.specs.declared.Answer.{Answer}
 use Rattle.table.specs.declared.Answer.the-variants.{Done, BadLength, BadCheck, BadKind, BadInputs, BadOutputs, BadOrder}
 use Rattle.table.specs.declared.Answer.the-variants.{BadContent, NoRow, NoSuch, ShortBuffer, NoTable, NoNetwork, TooSmall}
-use Rattle.table.specs.declared.Answer.the-variants.{BadCells, ShortAnswers}
+use Rattle.table.specs.declared.Answer.the-variants.{BadCells, ShortAnswers, NotCanonical}
 
 abbrev pub number : Answer → ℕ
 number (Done v) = 0
@@ -25,6 +25,7 @@ number NoNetwork = 22
 number (TooSmall wanted) = 23
 number BadCells = 24
 number ShortAnswers = 31
+number NotCanonical = 32
 
 -- 'A refusal answers its number and 0, but 23 adds the cells wanted'
 abbrev pub value : Answer → ℕ
@@ -44,6 +45,7 @@ value NoNetwork = 0
 value (TooSmall wanted) = wanted
 value BadCells = 0
 value ShortAnswers = 0
+value NotCanonical = 0
 
 -- the first answer where the test fails, else what follows
 abbrev pub unless : Bool → Answer → Answer → Answer
@@ -56,3 +58,8 @@ done a = eqb (number a) 0
 -- a refusal as it is, else what follows the success
 abbrev pub unlessRefused : Answer → Answer → Answer
 unlessRefused first rest = cond (done first) rest first
+
+-- the first refusal among the answers of k, k + 1 and so on, `left` of them; else a success
+unfoldable pub firstRefusal : (ℕ → Answer) → ℕ → ℕ → Answer
+firstRefusal f k zero = Done 0
+firstRefusal f k (suc left) = unlessRefused (f k) (firstRefusal f (suc k) left)

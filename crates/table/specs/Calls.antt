@@ -31,13 +31,17 @@ unfoldable pub loadAnswer : List ℕ → List ℕ → List ℕ → Answer
 loadAnswer file values care =
     unless (leb planeSize (length values) && leb planeSize (length care)) ShortBuffer (fileAnswer file)
 
--- 'After load the stage is table'; order entries past n are zero
+-- 'A call that reads an order from a file zeroes the state's order entries past n'
+abbrev pub loadedOrder : List ℕ → List ℕ
+loadedOrder file = map (λ p. cond (ltb p (fileInputs file)) (byte file 0 (6 + p)) 0) (upTo mostVariables)
+
+-- 'After load the stage is table'
 abbrev pub loadedState : List ℕ → State
 loadedState file =
     record {
       n = fileInputs file;
       m = fileOutputs file;
-      order = map (λ p. cond (ltb p (fileInputs file)) (byte file 0 (6 + p)) 0) (upTo mostVariables);
+      order = loadedOrder file;
       count = 0;
       stage = AtTable;
     }

@@ -2,7 +2,7 @@
 -- Assumes nothing.
 use mathlib.Core.Bool.{Bool, cond, _&&_}
 use mathlib.Core.List.{List, map}
-use Prim.Native.Nat.{ℕ, zero, suc, _+_, _*_, _-_, _/_, _%_, _^_}
+use Prim.Native.Nat.{ℕ, _+_, _*_, _-_, _/_, _%_, _^_}
 use lib.Dec.{eqb, ltb, leb}
 use lib.ListN.{length}
 use Rattle.diagram.specs.Lists.{upTo}
@@ -13,7 +13,7 @@ use Rattle.block.specs.Block.{unusedZero, unusedBitsZero}
 use Rattle.table.specs.declared.Answer.{Answer}
 use Rattle.table.specs.declared.Answer.the-variants.{Done, BadLength, BadCheck, BadKind}
 use Rattle.table.specs.declared.Answer.the-variants.{BadInputs, BadOutputs, BadOrder, BadContent}
-use Rattle.table.specs.Answer.{unless, unlessRefused}
+use Rattle.table.specs.Answer.{unless, unlessRefused, firstRefusal}
 
 -- the kind of block k, where a stream takes `blocks` blocks: 1 heading, then 2 values, then 3 care
 unfoldable pub kindOf : ℕ → ℕ → ℕ
@@ -33,13 +33,17 @@ fileOutputs file = byte file 0 5
 abbrev pub fileOrder : List ℕ → List ℕ
 fileOrder file = map (λ p. byte file 0 (6 + p)) (upTo (fileInputs file))
 
--- of the heading: '4, 5, 6, 7'. 'All other content is zero': past the order
-unfoldable pub fieldsAnswer : List ℕ → Answer
-fieldsAnswer file =
+-- of the heading, whatever the kind of file: '4, 5, 6', its n, m and order
+unfoldable pub shapeAnswer : List ℕ → Answer
+shapeAnswer file =
     unless (leb (fileInputs file) mostVariables) BadInputs
     (unless (leb 1 (fileOutputs file) && leb (fileOutputs file) mostOutputs) BadOutputs
-    (unless (isOrder (fileInputs file) (fileOrder file)) BadOrder
-    (unless (unusedZero file 0 (6 + fileInputs file)) BadContent (Done 0))))
+    (unless (isOrder (fileInputs file) (fileOrder file)) BadOrder (Done 0)))
+
+-- of a table's heading: '4, 5, 6, 7'. 'All other content is zero': past the order
+unfoldable pub fieldsAnswer : List ℕ → Answer
+fieldsAnswer file =
+    unlessRefused (shapeAnswer file) (unless (unusedZero file 0 (6 + fileInputs file)) BadContent (Done 0))
 
 -- 'for block 0: 2, 3, 4, 5, 6, 7'
 unfoldable pub headingAnswer : List ℕ → Answer
@@ -66,9 +70,8 @@ blockAnswer bits blocks file k =
     unless (goodCheck file k) BadCheck (unless (goodKind blocks file k) BadKind (tailAnswer bits blocks file k))
 
 -- 'then each further block' in turn, from block k on: the first refusal
-unfoldable pub blocksAnswer : ℕ → ℕ → List ℕ → ℕ → ℕ → Answer
-blocksAnswer bits blocks file k zero = Done 0
-blocksAnswer bits blocks file k (suc left) = unlessRefused (blockAnswer bits blocks file k) (blocksAnswer bits blocks file (suc k) left)
+abbrev pub blocksAnswer : ℕ → ℕ → List ℕ → ℕ → ℕ → Answer
+blocksAnswer bits blocks file k left = firstRefusal (blockAnswer bits blocks file) k left
 
 -- 'then 1 for the block count; then each further block'
 unfoldable pub streamsAnswer : List ℕ → ℕ → ℕ → Answer

@@ -1,7 +1,7 @@
 // What a table file answers: its blocks read one after the other, each by its kind (document 01, sections 1 and 6).
 use crate::Answer;
-use crate::order::is_order;
-use crate::order::read_order;
+use crate::numbers::is_done;
+use crate::shape::shape_answer;
 use block::BLOCK;
 use block::CONTENT_BITS;
 use block::block::block_byte;
@@ -10,8 +10,6 @@ use block::block::good_number;
 use block::block::whole_blocks;
 use block::unused::unused_bits_zero;
 use block::unused::unused_zero;
-use diagram::OUTPUTS;
-use diagram::VARIABLES;
 ghost use mathlib.Core.Path.{_≡_};
 ghost use mathlib.Core.Bool.{_&&_};
 ghost use Prim.Native.Nat.{_+_, _*_, _-_, _/_, _≤_, _<_};
@@ -19,20 +17,10 @@ ghost use lib.Dec.{eqb};
 ghost use Rattle.diagram.specs.Bound.{mostVariables, mostOutputs};
 ghost use Rattle.block.specs.Block.{contentBits, goodNumber};
 ghost use Rattle.table.specs.declared.Answer.the-variants.{BadKind};
-ghost use Rattle.table.specs.Answer.{unless, done};
+ghost use Rattle.table.specs.Answer.{unless};
 ghost use Rattle.table.specs.File.{fieldsAnswer, blocksAnswer, streamsAnswer, fileAnswer};
 ghost use Rattle.table.specs.inner.Reader.{carriedAnswer, kindAnswer, readAnswer};
 ghost use Rattle.table.specs.inner.Sizes.{mostBits, mostBlocks};
-
-// Whether an answer is a success.
-pub(crate) fn is_done(answer: Answer) -> bool
-    ensures { λ r. ⌜ r ≡ done answer ⌝ }
-{
-    match answer {
-        Answer::Done(_) => true,
-        _ => false,
-    }
-}
 
 // The blocks that a stream of so many bits takes.
 pub(crate) fn blocks_for(bits: usize) -> usize
@@ -46,21 +34,11 @@ pub(crate) fn blocks_for(bits: usize) -> usize
 fn fields_answer(file: &[u8]) -> Answer
     ensures { λ r. ⌜ r ≡ fieldsAnswer (now (file .entry)) ⌝ }
 {
-    let n = block_byte(file, 0, 4);
-    if VARIABLES < n {
-        return Answer::BadInputs;
+    let answer = shape_answer(file);
+    if !is_done(answer) {
+        return answer;
     }
-    let m = block_byte(file, 0, 5);
-    if m == 0 {
-        return Answer::BadOutputs;
-    }
-    if OUTPUTS < m {
-        return Answer::BadOutputs;
-    }
-    if !is_order(read_order(file, n), n) {
-        return Answer::BadOrder;
-    }
-    if !unused_zero(file, 0, 6 + n) {
+    if !unused_zero(file, 0, 6 + block_byte(file, 0, 4)) {
         return Answer::BadContent;
     }
     Answer::Done(0)

@@ -4,6 +4,7 @@ mod file;
 pub mod load;
 pub mod numbers;
 pub mod order;
+pub mod shape;
 pub mod swap;
 pub mod valid;
 
@@ -45,6 +46,7 @@ pub enum Answer {
     TooSmall(usize),
     BadCells,
     ShortAnswers,
+    NotCanonical,
 }
 
 // An answer, and the state after the call.

@@ -6,7 +6,7 @@ use crate::Stage;
 use crate::State;
 use crate::file::blocks_for;
 use crate::file::file_answer;
-use crate::file::is_done;
+use crate::numbers::is_done;
 use crate::order::read_order;
 use block::BLOCK;
 use block::CONTENT;

@@ -1,7 +1,17 @@
-// Document 01's number and value of an answer.
+// Whether an answer is a success, and document 01's number and value of it.
 use crate::Answer;
 ghost use mathlib.Core.Path.{_≡_};
-ghost use Rattle.table.specs.Answer.{number, value};
+ghost use Rattle.table.specs.Answer.{number, value, done};
+
+// Whether an answer is a success.
+pub fn is_done(answer: Answer) -> bool
+    ensures { λ r. ⌜ r ≡ done answer ⌝ }
+{
+    match answer {
+        Answer::Done(_) => true,
+        _ => false,
+    }
+}
 
 // The number of the paper's tables; 0 of a success.
 pub fn number_of(answer: Answer) -> usize
@@ -24,6 +34,7 @@ pub fn number_of(answer: Answer) -> usize
         Answer::TooSmall(_) => 23,
         Answer::BadCells => 24,
         Answer::ShortAnswers => 31,
+        Answer::NotCanonical => 32,
     }
 }
 
@@ -48,5 +59,6 @@ pub fn value_of(answer: Answer) -> usize
         Answer::NoNetwork => 0,
         Answer::BadCells => 0,
         Answer::ShortAnswers => 0,
+        Answer::NotCanonical => 0,
     }
 }

@@ -46,15 +46,22 @@ pub(crate) fn is_order(order: [usize; VARIABLES], n: usize) -> bool
     true
 }
 
+// Entry p of the heading's order, or 0 past n.
+fn order_entry(file: &[u8], n: usize, p: usize) -> usize
+    requires { ⌜ p < mostVariables ⌝ }
+    ensures { λ r. ⌜ r ≡ cond (ltb p n) (byte (now (file .entry)) 0 (6 + p)) 0 ⌝ }
+{
+    if p < n { block_byte(file, 0, 6 + p) } else { 0 }
+}
+
 // The heading's order, and zeros past n.
-pub(crate) fn read_order(file: &[u8], n: usize) -> [usize; VARIABLES]
-    requires { ⌜ n ≤ mostVariables ⌝ }
+pub fn read_order(file: &[u8], n: usize) -> [usize; VARIABLES]
     ensures { λ r. ⌜ r ≡ map (λ p. cond (ltb p n) (byte (now (file .entry)) 0 (6 + p)) 0) (upTo mostVariables) ⌝ }
 {
     let mut order = [0usize; VARIABLES];
     let mut p: usize = 0;
-    while p < n {
-        order[p] = block_byte(file, 0, 6 + p);
+    while p < VARIABLES {
+        order[p] = order_entry(file, n, p);
         p += 1;
     }
     order

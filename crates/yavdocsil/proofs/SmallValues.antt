@@ -22,11 +22,11 @@ use Rattle.table.specs.declared.Answer.the-variants.{Done, BadLength, BadCheck,
 use Rattle.table.specs.declared.Answer.the-variants.{BadContent, NoRow, NoSuch, ShortBuffer, NoTable, NoNetwork, TooSmall}
 use Rattle.table.specs.declared.Answer.the-variants.{BadCells, ShortAnswers}
 use Rattle.table.specs.declared.State.{State}
-use Rattle.table.specs.Answer.{value, done, unless, unlessRefused}
+use Rattle.table.specs.Answer.{value, done, unless, unlessRefused, firstRefusal}
 use Rattle.table.specs.State.{orderOf, stageOf, isNothing, isNetwork}
 use Rattle.table.specs.Stream.{caredBits}
 use Rattle.table.specs.File.{fileInputs, fileOutputs, fileOrder, goodKind, streamBits, streamBlocks, firstBit}
-use Rattle.table.specs.File.{fieldsAnswer, headingAnswer, tailAnswer, blockAnswer, blocksAnswer, streamsAnswer, fileAnswer}
+use Rattle.table.specs.File.{shapeAnswer, fieldsAnswer, headingAnswer, tailAnswer, blockAnswer, blocksAnswer, streamsAnswer, fileAnswer}
 use Rattle.table.specs.Calls.{planeSize, loadAnswer, loadOutcome, swapAnswer, swapOutcome, caredAnswer}
 use Rattle.table.proofs.Held.{few-bits, few-outputs}
 use Rattle.fill.specs.Calls.{heldTable, enough, countAnswer}
@@ -55,20 +55,31 @@ none = omega arith
 after : (first rest : Answer) → Small first → Small rest → Small (unlessRefused first rest)
 after first rest f r = split (done first) (λ e. rw e r) (λ e. rw e f)
 
+-- the first refusal of several
+each-small : (f : ℕ → Answer) → ((k : ℕ) → Small (f k)) → (k left : ℕ) → Small (firstRefusal f k left)
+unfolding firstRefusal
+each-small f s k zero = none
+each-small f s k (suc left) = after (f k) (firstRefusal f (suc k) left) (s k) (each-small f s (suc k) left)
+
 -- loading: every success of the file's checks is 0
 module _ (file : List ℕ) where
   unused-small : (ok : Bool) → Small (unless ok BadContent (Done 0))
   unused-small ok = checked ok BadContent (Done 0) refl (λ _. none)
 
+  shape-small : Small (shapeAnswer file)
+  unfolding shapeAnswer
+  shape-small =
+      let order = isOrder (fileInputs file) (fileOrder file) in
+      let outputs = leb 1 (fileOutputs file) && leb (fileOutputs file) mostOutputs in
+      let last = unless order BadOrder (Done 0) in
+      checked (leb (fileInputs file) mostVariables) BadInputs (unless outputs BadOutputs last) refl
+      (λ _. checked outputs BadOutputs last refl (λ _. checked order BadOrder (Done 0) refl (λ _. none)))
+
   fields-small : Small (fieldsAnswer file)
   unfolding fieldsAnswer
   fields-small =
       let unused = unusedZero file 0 (6 + fileInputs file) in
-      let order = isOrder (fileInputs file) (fileOrder file) in
-      let outputs = leb 1 (fileOutputs file) && leb (fileOutputs file) mostOutputs in
-      let last = unless unused BadContent (Done 0) in
-      checked (leb (fileInputs file) mostVariables) BadInputs (unless outputs BadOutputs (unless order BadOrder last)) refl
-      (λ _. checked outputs BadOutputs (unless order BadOrder last) refl (λ _. checked order BadOrder last refl (λ _. unused-small unused)))
+      after (shapeAnswer file) (unless unused BadContent (Done 0)) shape-small (unused-small unused)
 
   heading-small : Small (headingAnswer file)
   unfolding headingAnswer
@@ -88,18 +99,12 @@ module _ (file : List ℕ) where
         checked (goodCheck file k) BadCheck (unless (goodKind blocks file k) BadKind last) refl
         (λ _. checked (goodKind blocks file k) BadKind last refl (λ _. tail-small k))
 
-    blocks-small : (k left : ℕ) → Small (blocksAnswer bits blocks file k left)
-    unfolding blocksAnswer
-    blocks-small k zero = none
-    blocks-small k (suc left) =
-        after (blockAnswer bits blocks file k) (blocksAnswer bits blocks file (suc k) left) (block-small k) (blocks-small (suc k) left)
-
   streams-small : (n m : ℕ) → Small (streamsAnswer file n m)
   unfolding streamsAnswer
   streams-small n m =
       let blocks = streamBlocks n m in
       checked (eqb (length file) (blockSize * (1 + 2 * blocks))) BadLength (blocksAnswer (streamBits n m) blocks file 1 (2 * blocks)) refl
-      (λ _. blocks-small (streamBits n m) blocks 1 (2 * blocks))
+      (λ _. each-small (blockAnswer (streamBits n m) blocks file) (block-small (streamBits n m) blocks) 1 (2 * blocks))
 
   file-small : Small (fileAnswer file)
   unfolding fileAnswer

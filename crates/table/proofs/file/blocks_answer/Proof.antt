@@ -6,8 +6,8 @@ use denote.Ref.{now}
 use borrow.Author.Tests.{not-true, not-false}
 use native.Mathlib.Omega.{arith}
 use Rattle.table.specs.Answer.{done}
-use Rattle.table.specs.File.{blocksAnswer}
-use Rattle.table.proofs.Answers.{blocks-next, blocks-stop, blocks-end}
+use Rattle.table.specs.File.{blockAnswer, blocksAnswer}
+use Rattle.table.proofs.Answers.{refusal-next, refusal-stop, refusal-end}
 use Rattle.table.proofs.Reader.{read-further}
 use Rattle.table.proofs.file.blocks_answer.Statement.{statement}
 use Rattle.table.proofs.file.blocks_answer.Tie as tie
@@ -43,7 +43,7 @@ returns c =
     x .ensures ∙ d
     ∙ sym
     (l .inv .2
-    ∙ blocks-stop (a .bits) (a .blocks) (now (a .file)) (2 * a .blocks) (l .k) (omega arith)
+    ∙ refusal-stop (blockAnswer (a .bits) (a .blocks) (now (a .file))) (2 * a .blocks) (l .k) (omega arith)
     (ap done (sym (x .ensures ∙ d)) ∙ sym (c .before .is-done .ensures) ∙ not-true _ (c .if1 .taken)))
 
 add-k : tie.Need-add-k Inv-loop μ-loop
@@ -61,7 +61,7 @@ loop-again c =
       omega arith,
       omega arith,
       l .inv .2
-          ∙ blocks-next (a .bits) (a .blocks) (now (a .file)) (2 * a .blocks) (l .k) (omega arith)
+          ∙ refusal-next (blockAnswer (a .bits) (a .blocks) (now (a .file))) (2 * a .blocks) (l .k) (omega arith)
           (ap done (sym (x .ensures ∙ d)) ∙ sym (c .before .is-done .ensures) ∙ not-false _ (c .if1 .left)),
     )
 
@@ -69,7 +69,7 @@ returns-2 : tie.Need-returns-2 Inv-loop μ-loop
 returns-2 c =
     let l = c .before .loop in
     let a = c .before .before .before .args in
-    sym (l .inv .2 ∙ blocks-end (a .bits) (a .blocks) (now (a .file)) (2 * a .blocks) (l .k) (omega arith))
+    sym (l .inv .2 ∙ refusal-end (blockAnswer (a .bits) (a .blocks) (now (a .file))) (2 * a .blocks) (l .k) (omega arith))
 
 pub blocks-answer-spec : {M : Type 1} → statement M
 blocks-answer-spec =

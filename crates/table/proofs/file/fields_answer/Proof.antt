@@ -1,92 +1,32 @@
--- `table::file::fields_answer` meets its contract: each answer by the tests that led to it.
+-- `table::file::fields_answer` meets its contract: n, m and the order, then the unused content.
 -- Assumes nothing.
-use mathlib.Core.Path.{_≡_, sym, _∙_}
-use mathlib.Core.Bool.{true, _&&_}
-use mathlib.Core.List.{List}
-use Prim.Native.Nat.{ℕ, _+_}
+use mathlib.Core.Path.{_≡_, sym, ap, _∙_}
+use mathlib.Core.Bool.{true}
+use Prim.Native.Nat.{_+_}
 use borrow.Author.Needs.{needs}
 use borrow.Author.Tests.{not-true, not-false}
 use denote.Ref.{now}
-use lib.Dec.{leb}
-use Rattle.diagram.specs.Bound.{mostVariables, mostOutputs}
-use Rattle.diagram.specs.Order.{isOrder}
 use Rattle.block.specs.Block.{unusedZero}
-use Rattle.table.specs.File.{fileInputs, fileOutputs, fileOrder, fieldsAnswer}
-use Rattle.table.proofs.Heading.{many-inputs, few-inputs, no-outputs, many-outputs, some-outputs, order-read, rest-read}
+use Rattle.table.specs.Answer.{done}
+use Rattle.table.specs.File.{fileInputs, shapeAnswer, fieldsAnswer}
+use Rattle.table.proofs.Heading.{rest-read}
 use Rattle.table.proofs.file.fields_answer.Statement.{statement}
 use Rattle.table.proofs.file.fields_answer.Tie as tie
 
--- the file, seen from past the first test
-abbrev fileAt : tie.Else1 → List ℕ
-fileAt c = now (c .before .before .before .args .file)
+shape-answer-requires : tie.Need-shape-answer-requires
+shape-answer-requires c κs = search needs
 
--- what each test says once it is passed
-
-inputs : (c : tie.Else1) → leb (fileInputs (fileAt c)) mostVariables ≡ true
-inputs c =
-    let n = c .before .block-byte in
-    few-inputs (fileAt c) (n .result) (n .ensures .0) (c .if1 .left)
-
-outputs : (c : tie.Else3)
-    → let f = fileAt (c .before .before .before) in leb 1 (fileOutputs f) && leb (fileOutputs f) mostOutputs ≡ true
-outputs c =
-    let m = c .before .before .block-byte2 in
-    some-outputs (fileAt (c .before .before .before)) (m .result) (m .ensures .0) (c .before .if2 .left) (c .if3 .left)
-
-order : (c : tie.After-is-order)
-    → let f = fileAt (c .before .before .before .before .before) in c .is-order .result ≡ isOrder (fileInputs f) (fileOrder f)
-order c =
-    let i = c .before .before .before .before .before in
-    let n = i .before .block-byte in
-    order-read (fileAt i) (n .result) (n .ensures .0) (c .is-order .result) (c .before .read-order .result) (i .if1 .left)
-    (c .before .read-order .ensures) (c .is-order .ensures)
-
-rest : (c : tie.After-unused-zero)
-    → let f = fileAt (c .before .before .before .before .before .before .before) in
-    c .unused-zero .result ≡ unusedZero f 0 (6 + fileInputs f)
-rest c =
-    let i = c .before .before .before .before .before .before .before in
-    let n = i .before .block-byte in
-    rest-read (fileAt i) (n .result) (n .ensures .0) (c .unused-zero .result) (c .unused-zero .ensures)
-
-block-byte-requires : tie.Need-block-byte-requires
-block-byte-requires c κs = search needs
+is-done-requires : tie.Need-is-done-requires
+is-done-requires c κs = search needs
 
 returns : tie.Need-returns
 unfolding fieldsAnswer
 returns c =
-    let n = c .before .block-byte in
-    rw (many-inputs (now (c .before .before .before .args .file)) (n .result) (n .ensures .0) (c .if1 .taken))
+    let a = c .before .before .shape-answer in
+    rw (← a .ensures, sym (c .before .is-done .ensures) ∙ not-true _ (c .if1 .taken))
 
-block-byte-requires-2 : tie.Need-block-byte-requires-2
-block-byte-requires-2 c κs = search needs
-
-returns-2 : tie.Need-returns-2
-unfolding fieldsAnswer
-returns-2 c =
-    let m = c .before .block-byte2 in
-    let i = c .before .before in
-    rw (inputs i, no-outputs (fileAt i) (m .result) (m .ensures .0) (c .if2 .taken))
-
-returns-3 : tie.Need-returns-3
-unfolding fieldsAnswer
-returns-3 c =
-    let m = c .before .before .block-byte2 in
-    let i = c .before .before .before in
-    rw (inputs i, many-outputs (fileAt i) (m .result) (m .ensures .0) (c .if3 .taken))
-
-read-order-requires : tie.Need-read-order-requires
-read-order-requires c κs = search needs
-
-is-order-requires : tie.Need-is-order-requires
-is-order-requires c κs = search needs
-
-returns-4 : tie.Need-returns-4
-unfolding fieldsAnswer
-returns-4 c =
-    let o = c .before .before .before in
-    let i = o .before .before .before in
-    rw (inputs i, outputs o, sym (order (c .before)) ∙ not-true _ (c .if4 .taken))
+block-byte-requires : tie.Need-block-byte-requires
+block-byte-requires c κs = search needs
 
 add-unused-zero : tie.Need-add-unused-zero
 add-unused-zero c = search needs
@@ -94,45 +34,36 @@ add-unused-zero c = search needs
 unused-zero-requires : tie.Need-unused-zero-requires
 unused-zero-requires c κs = search needs
 
-returns-5 : tie.Need-returns-5
-unfolding fieldsAnswer
-returns-5 c =
-    let p = c .before .before in
-    let o = p .before .before .before in
-    let i = o .before .before .before in
-    rw (
-      inputs i,
-      outputs o,
-      sym (order (p .before)) ∙ not-false _ (p .if4 .left),
-      sym (rest (c .before)) ∙ not-true _ (c .if5 .taken),
-    )
+-- n, m and the order are good
+passed : (c : tie.Else1) → done (shapeAnswer (now (c .before .before .before .before .args .file))) ≡ true
+passed c = ap done (sym (c .before .before .shape-answer .ensures)) ∙ sym (c .before .is-done .ensures) ∙ not-false _ (c .if1 .left)
 
-returns-6 : tie.Need-returns-6
+-- and what the unused content says
+rest : (c : tie.After-unused-zero)
+    → let f = now (c .before .before .before .before .before .before .args .file) in
+    c .unused-zero .result ≡ unusedZero f 0 (6 + fileInputs f)
+rest c =
+    let n = c .before .block-byte in
+    rest-read (now (c .before .before .before .before .before .before .args .file)) (n .result) (n .ensures .0) (c .unused-zero .result)
+    (c .unused-zero .ensures)
+
+returns-2 : tie.Need-returns-2
 unfolding fieldsAnswer
-returns-6 c =
-    let p = c .before .before in
-    let o = p .before .before .before in
-    let i = o .before .before .before in
-    rw (
-      inputs i,
-      outputs o,
-      sym (order (p .before)) ∙ not-false _ (p .if4 .left),
-      sym (rest (c .before)) ∙ not-false _ (c .if5 .left),
-    )
+returns-2 c = rw (passed (c .before .before .before), sym (rest (c .before)) ∙ not-true _ (c .if2 .taken))
+
+returns-3 : tie.Need-returns-3
+unfolding fieldsAnswer
+returns-3 c = rw (passed (c .before .before .before), sym (rest (c .before)) ∙ not-false _ (c .if2 .left))
 
 pub fields-answer-spec : {M : Type 1} → statement M
 fields-answer-spec =
     tie.close
     (tie.spec
-    block-byte-requires
+    shape-answer-requires
+    is-done-requires
     returns
-    block-byte-requires-2
-    returns-2
-    returns-3
-    read-order-requires
-    is-order-requires
-    returns-4
+    block-byte-requires
     add-unused-zero
     unused-zero-requires
-    returns-5
-    returns-6)
+    returns-2
+    returns-3)

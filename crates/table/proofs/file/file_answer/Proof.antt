@@ -56,7 +56,7 @@ block-byte-requires-2 c κs = search needs
 streams-answer-requires : tie.Need-streams-answer-requires
 streams-answer-requires c κs =
     let n = c .before in
-    let h = taken (n .before) in
+    let h = taken (n .before) .shape in
     (omega (arith, h .inputs, n .block-byte .ensures .0), omega (arith, h .outputs, c .block-byte2 .ensures .0))
 
 returns-3 : tie.Need-returns-3

@@ -31,10 +31,10 @@ good-file c =
     (to-T (ap done (sym (c .before .before .file-answer .ensures)) ∙ passed c))
 
 few-variables : (c : tie.After-block-byte) → c .block-byte .result ≤ mostVariables
-few-variables c = omega (arith, good-file (c .before) .heading .inputs, c .block-byte .ensures .0)
+few-variables c = omega (arith, good-file (c .before) .heading .shape .inputs, c .block-byte .ensures .0)
 
 few-results : (c : tie.After-block-byte2) → c .block-byte2 .result ≤ mostOutputs
-few-results c = omega (arith, good-file (c .before .before) .heading .outputs, c .block-byte2 .ensures .0)
+few-results c = omega (arith, good-file (c .before .before) .heading .shape .outputs, c .block-byte2 .ensures .0)
 
 the-blocks : (c : tie.After-blocks-for)
     → c .blocks-for .result ≡ streamBlocks (c .before .before .block-byte .result) (c .before .block-byte2 .result)
@@ -97,7 +97,7 @@ blocks-for-requires c κs =
     )
 
 read-order-requires : tie.Need-read-order-requires
-read-order-requires c κs = few-variables (c .before .before)
+read-order-requires c κs = search needs
 
 write-plane-requires : tie.Need-write-plane-requires
 write-plane-requires c κs =

@@ -1,9 +1,9 @@
--- `table::file::is_done` meets its contract.
+-- `table::numbers::is_done` meets its contract.
 -- Assumes nothing.
 use borrow.Author.Needs.{needs}
 use Rattle.table.proofs.Variants.{is-first, is-other}
-use Rattle.table.proofs.file.is_done.Statement.{statement}
-use Rattle.table.proofs.file.is_done.Tie as tie
+use Rattle.table.proofs.numbers.is_done.Statement.{statement}
+use Rattle.table.proofs.numbers.is_done.Tie as tie
 
 enum-told : tie.Need-enum-told
 enum-told c = search needs

@@ -1,4 +1,4 @@
--- `block::unused::unused_zero` meets its contract. The loop's invariant: the bytes passed are zero.
+-- `block::unused::unused_between` meets its contract. The loop's invariant: the bytes passed are zero.
 -- Assumes nothing.
 use mathlib.Core.Path.{_≡_, sym, ap, _∙_, subst}
 use mathlib.Core.Bool.{Bool}
@@ -10,20 +10,20 @@ use native.Mathlib.Omega.{arith}
 use lib.Dec.{T, eqb}
 use Rattle.diagram.specs.Lists.{all, upTo}
 use Rattle.diagram.proofs.Numbers.{all-upTo-fails}
-use Rattle.block.specs.Block.{checkAt, byte, unusedZero}
+use Rattle.block.specs.Block.{byte, unusedBetween}
 use Rattle.block.proofs.Below.{all-end}
 use Rattle.block.proofs.UnusedBits.{passed-more}
-use Rattle.block.proofs.unused.unused_zero.Statement.{statement}
-use Rattle.block.proofs.unused.unused_zero.Tie as tie
+use Rattle.block.proofs.unused.unused_between.Statement.{statement}
+use Rattle.block.proofs.unused.unused_between.Tie as tie
 
 abbrev isZero : List ℕ → ℕ → ℕ → ℕ → Bool
 isZero file k from i = eqb (byte file k (from + i)) 0
 
 abbrev Inv-loop : tie.InvT-loop
-Inv-loop file k from i₀ i = (from ≤ i) × (i - from ≤ checkAt - from) × T (all (isZero file k from) (upTo (i - from)))
+Inv-loop file k from end i₀ i = (from ≤ i) × (i - from ≤ end - from) × T (all (isZero file k from) (upTo (i - from)))
 
 abbrev μ-loop : tie.MeasureT-loop
-μ-loop file k from i₀ i = checkAt - i
+μ-loop file k from end i₀ i = end - i
 
 loop-holds : tie.Need-loop-holds Inv-loop μ-loop
 loop-holds c =
@@ -45,12 +45,12 @@ read c =
     c .block-byte .ensures .0 ∙ ap (byte (now (a .file)) (a .k)) e
 
 returns : tie.Need-returns Inv-loop μ-loop
-unfolding unusedZero
+unfolding unusedBetween
 returns c =
     let l = c .before .before .before .loop in
     let a = c .before .before .before .before .before .args in
     sym
-    (all-upTo-fails (isZero (now (a .file)) (a .k) (a .from)) (checkAt - a .from) (l .i - a .from) (omega arith)
+    (all-upTo-fails (isZero (now (a .file)) (a .k) (a .from)) (a .end - a .from) (l .i - a .from) (omega arith)
     (ne-eqb _ _ (λ h. c .if1 .taken (read (c .before) ∙ h))))
 
 add-i : tie.Need-add-i Inv-loop μ-loop
@@ -70,14 +70,14 @@ loop-again c =
     )
 
 returns-2 : tie.Need-returns-2 Inv-loop μ-loop
-unfolding unusedZero
+unfolding unusedBetween
 returns-2 c =
     let a = c .before .before .before .args in
     let l = c .before .loop in
-    all-end (isZero (now (a .file)) (a .k) (a .from)) (l .i - a .from) (checkAt - a .from) (omega arith) (l .inv .2)
+    all-end (isZero (now (a .file)) (a .k) (a .from)) (l .i - a .from) (a .end - a .from) (omega arith) (l .inv .2)
 
-pub unused-zero-spec : {M : Type 1} → statement M
-unused-zero-spec =
+pub unused-between-spec : {M : Type 1} → statement M
+unused-between-spec =
     tie.close
     (tie.spec
     Inv-loop
