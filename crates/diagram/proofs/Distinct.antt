@@ -3,10 +3,11 @@
 use mathlib.Core.Path.{_≡_, subst}
 use mathlib.Core.Bool.{Bool, false, not}
 use mathlib.Core.List.{List, [], _∷_, _++_, map}
-use mathlib.Core.Logic.{_⊎_, inl, inr, ⊎-elim}
+use mathlib.Core.Logic.{_⊎_, ⊎-elim}
 use lib.Dec.{T}
 use Rattle.diagram.specs.Lists.{has, distinct}
-use Rattle.diagram.proofs.Bools.{split, to-T, to-not, absurd-T, and-T, or-l, or-r, or-cases}
+use Rattle.diagram.proofs.Bools.{split, to-T, to-not, absurd-T, and-T, or-r, or-cases}
+use Rattle.diagram.proofs.Grown.{has-append}
 use Rattle.diagram.proofs.Lists.{Equality, has-here, map-has, apart-first, apart-rest}
 
 -- none stands twice in a list of what f makes of distinct elements, where f makes different ones of them
@@ -26,12 +27,8 @@ distinct-map eqA EA eqB EB f (x ∷ xs) t g =
     (λ y z h k. g y z (or-r (eqA y x) (has eqA y xs) h) (or-r (eqA z x) (has eqA z xs) k)))
 
 module _ {A : Type 0} (eq : A → A → Bool) (E : Equality eq) where
-  pub append-has : (x : A) (xs ys : List A) → T (has eq x (xs ++ ys)) → T (has eq x xs) ⊎ T (has eq x ys)
-  append-has x [] ys h = inr h
-  append-has x (z ∷ xs) ys h =
-      ⊎-elim (λ s. inl (or-l (eq x z) (has eq x xs) s))
-      (λ s. ⊎-elim (λ k. inl (or-r (eq x z) (has eq x xs) k)) inr (append-has x xs ys s))
-      (or-cases (eq x z) (has eq x (xs ++ ys)) h)
+  append-has : (x : A) (xs ys : List A) → T (has eq x (xs ++ ys)) → T (has eq x xs) ⊎ T (has eq x ys)
+  append-has x xs ys h = or-cases (has eq x xs) (has eq x ys) (subst T (has-append eq x xs ys) h)
 
   -- two lists of distinct elements that share none
   pub distinct-append : (xs ys : List A) → T (distinct eq xs) → T (distinct eq ys) → ((x : A) → T (has eq x xs) → has eq x ys ≡ false)

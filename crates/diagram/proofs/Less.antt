@@ -1,4 +1,4 @@
--- Those of a list that don't stand in another, what a mapped list keeps, and lists that are alike in first-seen sequence.
+-- What is kept and taken out of a list: of two in a row, of a mapped one, those that don't stand in another; and first-seen sequence.
 -- Assumes nothing.
 use mathlib.Core.Path.{_≡_, refl, sym, ap, _∙_, subst}
 use mathlib.Core.Bool.{Bool, true, false, not, cond}
@@ -13,12 +13,23 @@ pub keep-all : {A : Type 0} (xs : List A) → keep (λ x. true) xs ≡ xs
 keep-all [] = refl
 keep-all {A} (x ∷ xs) = ap (λ (l : List A). x ∷ l) (keep-all xs)
 
+pub keep-append : {A : Type 0} (q : A → Bool) (xs ys : List A) → keep q (xs ++ ys) ≡ keep q xs ++ keep q ys
+keep-append q [] ys = refl
+keep-append {A} q (x ∷ xs) ys =
+    split (q x) (λ e. rw e (ap (λ (l : List A). x ∷ l) (keep-append q xs ys))) (λ e. rw e (keep-append q xs ys))
+
+pub without-append : {A : Type 0} (eq : A → A → Bool) (x : A) (xs ys : List A)
+    → without eq x (xs ++ ys) ≡ without eq x xs ++ without eq x ys
+without-append eq x [] ys = refl
+without-append {A} eq x (z ∷ xs) ys =
+    split (eq x z) (λ e. rw e (without-append eq x xs ys)) (λ e. rw e (ap (λ (l : List A). z ∷ l) (without-append eq x xs ys)))
+
 -- those of xs that don't stand in gs
 abbrev pub less : {A : Type 0} → (A → A → Bool) → List A → List A → List A
 less eq gs xs = keep (λ x. not (has eq x gs)) xs
 
 module _ {A : Type 0} (eq : A → A → Bool) (E : Equality eq) where
-  eq-swap : (x y : A) → eq x y ≡ eq y x
+  pub eq-swap : (x y : A) → eq x y ≡ eq y x
   eq-swap x y =
       both-ways (eq x y) (eq y x)
       (λ t. subst (λ z. T (eq z x)) (E .sound x y t) (E .self x)) (λ t. subst (λ z. T (eq z y)) (E .sound y x t) (E .self y))

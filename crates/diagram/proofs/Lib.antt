@@ -3,6 +3,8 @@ pub mod Lists
 pub mod Numbers
 pub mod UpTo
 pub mod Equal
+pub mod Less
+pub mod Grown
 pub mod Distinct
 pub mod Bits
 pub mod Tree
@@ -29,7 +31,6 @@ pub mod Sift
 pub mod Pass
 pub mod Levels
 pub mod FirstSeen
-pub mod Less
 pub mod SeenClasses
 pub mod Rising
 pub mod Followed

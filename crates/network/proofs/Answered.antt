@@ -1,13 +1,14 @@
 -- What evaluation answers, one test after the other, and what the tests that were passed say of the lent cells.
 -- Assumes nothing.
 use mathlib.Core.Path.{_≡_, refl, sym, ap, _∙_}
-use mathlib.Core.Bool.{Bool, true, false, not, cond}
+use mathlib.Core.Bool.{Bool, true, false, not, cond, and-false}
 use mathlib.Core.List.{List, []}
 use Prim.Native.Nat.{ℕ, zero, suc, _*_, _/_, _%_, _^_, _≤_, _<_}
+use native.Mathlib.Nat.{min-eq-right, le-of-lt}
 use native.Mathlib.Omega.{arith}
-use borrow.Author.Tests.{lt-ltb, le-ltb, le-leb, lt-leb}
+use borrow.Author.Tests.{lt-ltb, le-ltb, le-leb, lt-leb, ne-eqb}
 use lib.Dec.{T, eqb, ltb, leb, leb→le}
-use lib.ListN.{length, getD, take}
+use lib.ListN.{length, getD, take, length-take}
 use Rattle.diagram.specs.Lists.{flip}
 use Rattle.diagram.specs.Diagram.{Node, inverts, wellFormed, gives}
 use Rattle.diagram.specs.Bound.{mostVariables, mostOutputs}
@@ -32,7 +33,7 @@ network-held AtTable h = tt
 network-held Network h = tt
 
 -- what a row gives does not depend on the roots
-gives-roots : (cs : List Node) (rs rs′ : List ℕ) (a : ℕ → Bool) (k r : ℕ)
+pub gives-roots : (cs : List Node) (rs rs′ : List ℕ) (a : ℕ → Bool) (k r : ℕ)
     → gives true (record { nodes = cs; roots = rs }) a k r ≡ gives true (record { nodes = cs; roots = rs′ }) a k r
 unfolding gives
 gives-roots cs rs rs′ a zero r = refl
@@ -59,6 +60,13 @@ module _ (s : State) (roots cells : List ℕ) where
   unfolding goodCells
   enough-cells h = rw (le-leb (s .count) (length cells / 3) h)
 
+  -- fewer roots than outputs are no well-formed diagram's
+  pub few-roots : length roots < s .m → goodCells s roots cells ≡ false
+  unfolding goodCells wellFormed lentDiagram
+  few-roots h =
+      let short : length (take (s .m) roots) ≡ length roots = length-take (s .m) roots ∙ min-eq-right (le-of-lt h) in
+      rw (ne-eqb (length (take (s .m) roots)) (s .m) (λ e. omega arith)) (and-false (leb (s .count) (length cells / 3)))
+
   module _ (good : goodCells s roots cells ≡ true) where
     good-enough : s .count ≤ length cells / 3
     unfolding goodCells
@@ -76,7 +84,7 @@ module _ (s : State) (roots cells : List ℕ) (long : mostOutputs ≤ length roo
   pub inputs-few : s .n ≤ mostVariables
   inputs-few = few-inputs s table
 
-  pub roots-fit : s .m ≤ length roots
+  roots-fit : s .m ≤ length roots
   roots-fit = omega (arith, few-outputs s table)
 
   -- 1 << n is 2ⁿ

@@ -16,6 +16,8 @@ pub mod Offsets
 pub mod Outcomes
 pub mod Outputs
 pub mod RootTurns
+pub mod Tabulated
+pub mod Tabulating
 pub mod Tested
 pub mod TraceSized
 pub mod Words

@@ -84,13 +84,16 @@ fn well_formed(cells: &[u16], count: usize, roots: &[u16], n: usize, m: usize) -
 }
 
 // Whether the lent cells are enough for the count, and with the roots a well-formed diagram: what number 24 asks.
-pub(crate) fn good_cells(state: State, roots: &[u16], cells: &[u16]) -> bool
-    requires { ⌜ state .m ≤ length (now roots) ⌝ }
+pub fn good_cells(state: State, roots: &[u16], cells: &[u16]) -> bool
     ensures { λ x. ⌜ x ≡ goodCells state (now (roots .entry)) (now (cells .entry)) ⌝ }
 {
     let count = state.count;
+    let m = state.m;
     if cells.len() / 3 < count {
         return false;
     }
-    well_formed(cells, count, roots, state.n, state.m)
+    if roots.len() < m {
+        return false;
+    }
+    well_formed(cells, count, roots, state.n, m)
 }

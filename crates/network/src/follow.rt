@@ -51,7 +51,7 @@ fn next(
 }
 
 // What the row gives at a root.
-fn follow(
+pub(crate) fn follow(
     cells: &[u16],
     count: usize,
     order: [usize; VARIABLES],

@@ -1,4 +1,4 @@
-// Building a network in lent cells, and evaluating lent cells (document 01, section 4).
+// Building a network in lent cells, evaluating lent cells (document 01, section 4), and the table that they compute (document 02, 2.2).
 pub mod build;
 pub mod cells;
 pub mod evaluate;
@@ -7,6 +7,7 @@ mod levels;
 mod links;
 mod roots;
 pub mod rows;
+pub mod tabulate;
 
 use diagram::OUTPUTS;
 

@@ -9,7 +9,7 @@ use borrow.Author.Tests.{not-true, not-false}
 use denote.Ref.{now}
 use Rattle.table.specs.State.{stageOf, isNetwork}
 use Rattle.network.specs.Evaluate.{goodCells}
-use Rattle.network.proofs.Answered.{inputs-few, roots-fit, shifted-rows, followable, rooted}
+use Rattle.network.proofs.Answered.{inputs-few, shifted-rows, followable, rooted}
 use Rattle.network.proofs.Answered.{answer-short, answer-no-network, answer-no-row, answer-bad-cells, answer-done}
 use Rattle.network.proofs.evaluate.evaluate.Statement.{statement}
 use Rattle.network.proofs.evaluate.evaluate.Tie as tie
@@ -65,10 +65,7 @@ returns-3 c =
     (omega (arith, c .if3 .taken, shifted-rows (a .state) (now (a .roots)) (now (a .cells)) long (held t))))
 
 good-cells-requires : tie.Need-good-cells-requires
-good-cells-requires c κs =
-    let t = c .before in
-    let a = t .before .before .before .before .before .args in
-    roots-fit (a .state) (now (a .roots)) (now (a .cells)) (t .before .before .if1 .left) (held t)
+good-cells-requires c κs = search needs
 
 returns-4 : tie.Need-returns-4
 returns-4 c =

@@ -10,7 +10,7 @@ use lib.Dec.{ltb}
 use Rattle.diagram.specs.Lists.{all}
 use Rattle.table.specs.State.{stageOf, isNetwork}
 use Rattle.network.specs.Evaluate.{goodCells}
-use Rattle.network.proofs.Answered.{inputs-few, roots-fit, followable, rooted}
+use Rattle.network.proofs.Answered.{inputs-few, followable, rooted}
 use Rattle.network.proofs.ManyRows.{rows-short, rows-few-answers, rows-no-network, rows-no-row, rows-bad-cells, rows-done}
 use Rattle.network.proofs.rows.evaluate_rows.Statement.{statement}
 use Rattle.network.proofs.rows.evaluate_rows.Tie as tie
@@ -72,11 +72,7 @@ returns-4 c =
     (sym (r .ensures) ∙ not-true (r .result) (c .if4 .taken))
 
 good-cells-requires : tie.Need-good-cells-requires
-good-cells-requires c κs =
-    let q = c .before .before in
-    let t = q .before .before in
-    let a = t .before .before .before .before .before .before .args in
-    roots-fit (a .state) (now (a .roots)) (now (a .cells)) (t .before .if1 .left) (held q)
+good-cells-requires c κs = search needs
 
 returns-5 : tie.Need-returns-5
 returns-5 c =

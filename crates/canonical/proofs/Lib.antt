@@ -1,0 +1,9 @@
+pub mod Nodes
+pub mod Firsts
+pub mod Listed
+pub mod Spread
+pub mod Standing
+pub mod Numbering
+pub mod Walked
+pub mod Structured
+pub mod Answered

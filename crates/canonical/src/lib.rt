@@ -1,0 +1,7 @@
+// Whether lent cells and roots are section 4's network of what they compute (document 02, 2.2, number 32), by their structure.
+pub mod canonical;
+mod reduced;
+mod walk;
+
+// How many slots the nodes are marked in; specs/inner/Reduced.antt has the definition, `slots`.
+const SLOTS: usize = 16384;

@@ -1,0 +1,102 @@
+-- A written network file passes every check of a network file.
+-- Assumes nothing.
+use mathlib.Core.Path.{_≡_, sym, _∙_, subst, subst₂}
+use mathlib.Core.List.{List}
+use Prim.Native.Nat.{ℕ, suc, _+_, _*_, _≤_}
+use native.Mathlib.Omega.{arith}
+use lib.Dec.{T, leb, leb→le}
+use lib.ListN.{length, length-take}
+use Rattle.diagram.specs.Bound.{mostVariables, mostOutputs}
+use Rattle.diagram.specs.Order.{isOrder}
+use Rattle.diagram.proofs.Bools.{and-l, and-r}
+use Rattle.diagram.proofs.Order.{order-length}
+use Rattle.block.specs.Block.{blockSize, contentAt}
+use Rattle.table.specs.declared.Answer.the-variants.{Done}
+use Rattle.table.specs.declared.State.{State}
+use Rattle.table.specs.State.{goodHeading, orderOf}
+use Rattle.table.specs.File.{fileInputs, fileOutputs}
+use Rattle.table.proofs.Accepted.{AcceptedShape}
+use Rattle.table.proofs.Held.{heading-inputs, heading-outputs, heading-order}
+use Rattle.cellfile.specs.File.{countAt, rootsAt, cellBlocks, carriedNumbers, networkFileAnswer}
+use Rattle.cellfile.specs.Write.{headingByte, cellsByte, blockContent}
+use Rattle.cellfile.proofs.AcceptedNetwork.{AcceptedNetworkHeading, AcceptedCells, AcceptedNetwork, network-accepted}
+use Rattle.cellfile.proofs.AcceptedNetwork.{unused-of}
+use Rattle.cellfile.proofs.SealedBlock.{bytes-headed, block-checked}
+use Rattle.cellfile.proofs.WrittenFields.{unused-field, rest-field, past-field}
+use Rattle.cellfile.proofs.WrittenFile.{writtenBytes, written-length, written-byte, heading-byte, cells-byte, heading-content}
+use Rattle.cellfile.proofs.WrittenFile.{cells-content, written-inputs, written-outputs, written-count, written-order}
+
+-- what a good heading keeps
+module _ (s : State) (g : T (goodHeading (s .n) (s .m) (orderOf s))) where
+  pub some-inputs : s .n ≤ mostVariables
+  some-inputs = heading-inputs (s .n) (s .m) (orderOf s) g
+
+  pub one-output : 1 ≤ s .m
+  one-output =
+      leb→le 1 (s .m) (and-l (leb 1 (s .m)) (leb (s .m) mostOutputs) (heading-outputs (s .n) (s .m) (orderOf s) g))
+
+  pub some-outputs : s .m ≤ mostOutputs
+  some-outputs =
+      leb→le (s .m) mostOutputs (and-r (leb 1 (s .m)) (leb (s .m) mostOutputs) (heading-outputs (s .n) (s .m) (orderOf s) g))
+
+  pub good-order : T (isOrder (s .n) (orderOf s))
+  good-order = heading-order (s .n) (s .m) (orderOf s) g
+
+  pub long-order : s .n ≤ length (s .order)
+  long-order = omega (arith, length-take (s .n) (s .order), order-length (s .n) (orderOf s) good-order)
+
+module _ (s : State) (roots cells : List ℕ) where
+  written-cells : (k : ℕ) → 1 ≤ k → k ≤ cellBlocks (s .count) → AcceptedCells (s .count) (writtenBytes s roots cells) k
+  written-cells k g h =
+      let F : List ℕ = writtenBytes s roots cells in
+      let b = bytes-headed 5 k (cellsByte (s .count) cells k) F (λ i l. cells-byte s roots cells k i g h l) in
+      record {
+        check = block-checked (blockContent s roots cells k) F k (λ i l. written-byte s roots cells k i h l);
+        kind = b .0;
+        number = b .1;
+        rest = unused-of F k (contentAt + 2 * carriedNumbers (s .count) k) _
+            (λ i l m. cells-content s roots cells k i g h (omega arith) m ∙ past-field (s .count) cells k i l);
+      }
+
+  module _ (g : T (goodHeading (s .n) (s .m) (orderOf s))) where
+    written-shape : AcceptedShape (writtenBytes s roots cells)
+    written-shape =
+        let n : fileInputs (writtenBytes s roots cells) ≡ s .n = written-inputs s roots cells in
+        let m : fileOutputs (writtenBytes s roots cells) ≡ s .m = written-outputs s roots cells in
+        record {
+          inputs = omega (arith, some-inputs s g);
+          one-output = omega (arith, one-output s g);
+          outputs = omega (arith, some-outputs s g);
+          order = subst₂ (λ (k : ℕ) (l : List ℕ). T (isOrder k l)) (sym n)
+              (sym (written-order s roots cells (some-inputs s g) (long-order s g))) (good-order s g);
+        }
+
+    written-heading : AcceptedNetworkHeading (writtenBytes s roots cells)
+    written-heading =
+        let F : List ℕ = writtenBytes s roots cells in
+        let b = bytes-headed 4 0 (headingByte s roots) F (heading-byte s roots cells) in
+        let n : fileInputs F ≡ s .n = written-inputs s roots cells in
+        let m : fileOutputs F ≡ s .m = written-outputs s roots cells in
+        record {
+          check = block-checked (blockContent s roots cells 0) F 0 (λ i l. written-byte s roots cells 0 i (omega arith) l);
+          kind = b .0;
+          number = b .1;
+          shape = written-shape;
+          between = unused-of F 0 (6 + fileInputs F) countAt
+              (λ i h l. heading-content s roots cells i (omega arith) (omega arith) ∙ unused-field s roots i (omega arith) l);
+          rest = unused-of F 0 (rootsAt + 2 * fileOutputs F) _
+              (λ i h l. heading-content s roots cells i (omega arith) l ∙ rest-field s roots i (omega arith));
+        }
+
+    pub written-network : AcceptedNetwork (writtenBytes s roots cells)
+    written-network =
+        let c = sym (written-count s roots cells) in
+        record {
+          heading = written-heading;
+          long = subst (λ (x : ℕ). length (writtenBytes s roots cells) ≡ blockSize * suc (cellBlocks x)) c (written-length s roots cells);
+          blocks = subst
+              (λ (x : ℕ). (k : ℕ) → 1 ≤ k → k ≤ cellBlocks x → AcceptedCells x (writtenBytes s roots cells) k) c written-cells;
+        }
+
+    pub written-accepted : networkFileAnswer (writtenBytes s roots cells) ≡ Done 0
+    written-accepted = network-accepted (writtenBytes s roots cells) written-network
