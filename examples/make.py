@@ -1,4 +1,4 @@
-"""Makes every NAME.table of this folder from its drawing, NAME.txt.
+"""Makes every NAME.table of this folder from its drawing, NAME.txt, and the network files.
 
     python3 examples/make.py
 
@@ -14,9 +14,12 @@ from pathlib import Path
 HERE = Path(__file__).resolve().parent
 sys.path.insert(0, str(HERE.parent / "tests"))
 
+import expected
 import files
 
 INDENT = "    "
+# The examples that have a network file, NAME.cells, beside their table.
+NETWORK_FILES = ["bounce-guard"]
 
 
 def indented(text):
@@ -66,13 +69,21 @@ def table_of(text):
     return files.table_file(len(inputs), len(outputs), order, values, care)
 
 
+def network_file_of(text):
+    """The network file of a drawing, built in the drawing's order."""
+    return expected.cells_output(table_of(text))
+
+
 def drawings():
     return sorted(HERE.glob("*.txt"))
 
 
 def main():
     for drawing in drawings():
-        drawing.with_suffix(".table").write_bytes(table_of(drawing.read_text()))
+        text = drawing.read_text()
+        drawing.with_suffix(".table").write_bytes(table_of(text))
+        if drawing.stem in NETWORK_FILES:
+            drawing.with_suffix(".cells").write_bytes(network_file_of(text))
 
 
 if __name__ == "__main__":

@@ -32,11 +32,13 @@ def call(name, *arguments):
 class Table:
     """A state and its buffers."""
 
-    def __init__(self, file):
+    def __init__(self):
         self.state = (ctypes.c_uint64 * 40)()
         self.values, self.care = (ctypes.c_uint8 * 2048)(), (ctypes.c_uint8 * 2048)()
         self.work = (ctypes.c_uint8 * 32768)()
         self.roots, self.cells = (ctypes.c_uint16 * 16)(), (ctypes.c_uint16 * (3 * 2159))()
+
+    def load(self, file):
         bytes_of_file = (ctypes.c_uint8 * len(file))(*file)
         call("yav_load", self.state, bytes_of_file, self.values, self.care)
 
@@ -60,7 +62,8 @@ class Table:
 def main():
     if len(sys.argv) != 2:
         sys.exit("usage: sift.py FILE, where FILE is a table file")
-    table = Table(pathlib.Path(sys.argv[1]).read_bytes())
+    table = Table()
+    table.load(pathlib.Path(sys.argv[1]).read_bytes())
     table.build()
     print(*table.lines(), sep="\n")
     print("tried", table.sift_all())

@@ -2,7 +2,7 @@
  *
  * A slice passes as a pointer and a length in elements. Lent slices don't overlap, and all of a slice is memory of the caller's.
  * What is too short, wrong or out of place is answered with a number, and nothing but what is said here is written:
- * a refusal leaves the state and every buffer as they were, except that YAV_TOO_SMALL leaves the work buffer zero.
+ * a refusal leaves the state and every buffer as they were, except that YAV_TOO_SMALL and YAV_NOT_CANONICAL leave the work buffer zero.
  *
  * No call keeps anything between calls: a table is its state and its buffers, and each thread can have its own. */
 #ifndef YAVDOCSIL_H
@@ -21,7 +21,8 @@ enum {
     YAV_TABLE_BYTES = 2048, /* values, and care: the drawn bits, and which of them are cared */
     YAV_WORK_BYTES = 32768, /* zero after each success */
     YAV_ROOTS = 16,
-    YAV_MOST_CELLS = 2159 /* no table needs more; a cell takes three elements: place, 0-arrow, 1-arrow */
+    YAV_MOST_CELLS = 2159, /* no table needs more; a cell takes three elements: place, 0-arrow, 1-arrow */
+    YAV_FILE_BYTES = 13824 /* a network file to be written: 27 blocks of 512 bytes, which so many cells take */
 };
 
 /* Where the state's words stand. Words not named are never read or changed. Start with all words zero. */
@@ -50,7 +51,8 @@ enum {
     YAV_NO_NETWORK = 22,
     YAV_TOO_SMALL = 23,     /* the value is the cells wanted */
     YAV_BAD_CELLS = 24,
-    YAV_SHORT_ANSWERS = 31  /* fewer answers lent than rows */
+    YAV_SHORT_ANSWERS = 31, /* fewer answers lent than rows */
+    YAV_NOT_CANONICAL = 32  /* no build leaves such cells and roots, whatever the table */
 };
 
 /* An answer is its number × 2³² + its value. */
@@ -82,6 +84,18 @@ uint64_t yav_evaluate(const uint64_t *state, size_t state_words, uint64_t row,
 uint64_t yav_evaluate_rows(const uint64_t *state, size_t state_words, const uint16_t *rows, size_t rows_elements,
                            uint16_t *answers, size_t answers_elements, const uint16_t *roots, size_t roots_elements,
                            const uint16_t *cells, size_t cells_elements);
+
+/* Writes the network file of the network held: a block with its order, count and roots, then a block for every 84 cells, 512 bytes each.
+ * Bytes past the last block stay. Numbers 10, 22, 24, 32. */
+uint64_t yav_write_cells(const uint64_t *state, size_t state_words, const uint16_t *roots, size_t roots_elements,
+                         const uint16_t *cells, size_t cells_elements, uint8_t *work, size_t work_bytes,
+                         uint8_t *file, size_t file_bytes);
+
+/* Reads a network file into roots and cells, and the table that the cells give into values, with every row cared. It takes just the files
+ * that the call above writes, without a byte more. Numbers 10, 1 to 7, 23 by the file's count, 24, 32. */
+uint64_t yav_read_cells(uint64_t *state, size_t state_words, const uint8_t *file, size_t file_bytes,
+                        uint8_t *values, size_t values_bytes, uint8_t *care, size_t care_bytes, uint8_t *work, size_t work_bytes,
+                        uint16_t *roots, size_t roots_elements, uint16_t *cells, size_t cells_elements);
 
 /* Exchanges the inputs at `place` and the place below it. Numbers 10, 21, 9. */
 uint64_t yav_swap(uint64_t *state, size_t state_words, uint64_t place);

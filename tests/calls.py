@@ -13,11 +13,13 @@ import itertools
 import random
 
 import cases
+import cell_files
 import diagrams
 import files
 import fixed_calls
 import lending
 import library
+import networks
 import reference
 import refusals
 from library import Call
@@ -48,8 +50,10 @@ def single(rng):
     call = refusals.sound_call(rng, name, *small_size(rng))
     if name == "build":
         lend_board(rng, call.lent)
-    if name in lending.EVALUATIONS:
+    if name in lending.HOLDERS:
         lend_counted(rng, call.lent)
+    if name == "read_cells":
+        call.lent.lengths["cells"] = lending.board_near(rng, refusals.cells_wanted(call))
     due = rng.choices(range(4), (70, 15, 10, 5))[0]
     kinds = refusals.kinds_of(name)
     refusals.spoil_all(rng, call, rng.sample(kinds, min(due, len(kinds))))
@@ -67,10 +71,87 @@ def some_file(rng):
         return file
     if choice < 0.9:
         return refusals.damaged_file(rng, file)
+    return in_sound_frames(rng, file)
+
+
+def in_sound_frames(rng, file):
+    """Random content in one of the blocks or in all."""
     blocks = files.blocks_of(file)
     for number in rng.sample(range(len(blocks)), rng.choice((1, len(blocks)))):
         blocks[number] = files.with_check(blocks[number][:4] + rng.randbytes(508))
     return b"".join(blocks)
+
+
+def any_diagram(rng, n, m):
+    """Number 24 lets it pass, but it is hardly ever section 4's network."""
+    cells, roots = diagrams.random_diagram(rng, n, m)
+    return cell_files.Network(n, m, cases.random_order(rng, n), cells, networks.sixteen(roots[:m]))
+
+
+def some_network_file(rng):
+    """Sound, damaged in its blocks, or of cells and roots that are no network."""
+    n, m = small_size(rng)
+    network = networks.of_table(cases.random_table(rng, n, m))
+    file = cell_files.network_file(network)
+    choice = rng.random()
+    if choice < 0.4:
+        return file
+    if choice < 0.65:
+        return refusals.damaged_file(rng, file)
+    if choice < 0.7:
+        return in_sound_frames(rng, file)
+    if choice < 0.75:
+        return cell_files.with_count(file, rng.choice((0, len(network.cells) + 1, 84, 85, 256)))
+    if choice < 0.87:
+        return cell_files.network_file(networks.some_near(rng, network) or network)
+    if choice < 0.94:
+        return cell_files.network_file(any_diagram(rng, n, m))
+    diagrams.break_diagram(rng, n, m, network.cells, network.roots)
+    return cell_files.network_file(network)
+
+
+def reads(rng):
+    """Several network files into the same state and buffers."""
+    lent = lending.lent_for(rng, *small_size(rng))
+    for _ in range(6):
+        lending.lend_file(rng, lent, some_network_file(rng))
+        call = Call("read_cells", {}, lent, "network files one after the other")
+        lending.lengthen(rng, lent)
+        lent.lengths["cells"] = lending.SMALL_BOARD
+        if rng.random() < 0.3:
+            lent.lengths["cells"] = board_near_file(rng, lent)
+        if rng.random() < 0.3:
+            lent.contents["work"] = lending.dirty(rng, "work", len(lent.contents["work"]))
+        if rng.random() < 0.1:
+            refusals.spoil(rng, call, rng.choice(("state", "values", "care", "work", "roots")))
+        yield call
+
+
+def board_near_file(rng, lent):
+    near = lending.board_near(rng, cell_files.count_in(lent.part("file")))
+    return min(near, lending.SMALL_BOARD)
+
+
+def written_and_read(rng):
+    """A network is written, read into another state and buffers, and written again."""
+    lent = lending.lent_for(rng, *small_size(rng))
+    yield Call("build", {}, lent, "to be written")
+    lending.lend_file_space(rng, lent)
+    yield Call("write_cells", {}, lent, "as built")
+    lending.lend_written(lent)
+    other = lending.lent_for(rng, *small_size(rng))
+    other.put("file", lent.contents["file"], lent.lengths["file"])
+    if rng.random() < 0.3:
+        other.lengths["cells"] = board_near_file(rng, other)
+    yield Call("read_cells", {}, other, "as written")
+    n = lent.contents["state"][library.N]
+    lending.lend_rows_near(rng, other, n)
+    yield Call("evaluate_rows", {}, other, "as read")
+    other.contents["work"] = lending.dirty(rng, "work", len(other.contents["work"]))
+    lending.lend_file_space(rng, other)
+    yield Call("write_cells", {}, other, "as read")
+    yield Call("build", {}, other, "of the table as read")
+    yield Call("write_cells", {}, other, "as built again")
 
 
 def loads(rng):
@@ -108,12 +189,16 @@ def diagram_calls(rng):
         yield Call("evaluate", lending.numbers_near(rng, "evaluate", n), lent, "any diagram")
         lending.lend_rows_near(rng, lent, n)
         yield Call("evaluate_rows", {}, lent, "any diagram")
+    lending.lend_file_space(rng, lent)
+    yield Call("write_cells", {}, lent, "any diagram")
     for _ in range(4):
         lending.lend_diagram(lent, cells, roots)
         rng.choice((refusals.break_lent_diagram, refusals.lend_too_few_cells))(rng, lent)
         yield Call("evaluate", {"row": rng.randrange(2**n)}, lent, "a diagram with a breach")
         lending.lend_rows(rng, lent, lending.rows_inside(rng, n))
         yield Call("evaluate_rows", {}, lent, "a diagram with a breach")
+        lending.lend_file_space(rng, lent)
+        yield Call("write_cells", {}, lent, "a diagram with a breach")
 
 
 # Chains.
@@ -127,11 +212,11 @@ def holds(lent):
 def next_name(rng, lent):
     """Mostly a call that is not refused for the stage."""
     if holds(lent) == reference.NOTHING and rng.random() < 0.6:
-        return "load"
+        return rng.choice(("load", "load", "read_cells"))
     if holds(lent) == reference.NETWORK and rng.random() < 0.5:
-        return rng.choice(lending.EVALUATIONS)
+        return rng.choice(lending.HOLDERS)
     names = ["load", "cared", "count", "build", "build", "evaluate", "evaluate_rows", "swap"]
-    return rng.choice(names + ["swap", "sift", "pass"])
+    return rng.choice(names + ["swap", "sift", "pass", "write_cells", "read_cells"])
 
 
 def meddle(rng, lent):
@@ -158,7 +243,11 @@ def next_call(rng, lent, note):
         file = cases.random_table(rng, *small_size(rng))
         damaged = rng.random() < 0.2
         lending.lend_file(rng, lent, refusals.damaged_file(rng, file) if damaged else file)
-    if name in lending.EVALUATIONS and rng.random() < 0.5:
+    if name == "read_cells":
+        lending.lend_file(rng, lent, some_network_file(rng))
+    if name == "write_cells":
+        lending.lend_file_space(rng, lent)
+    if name in lending.HOLDERS and rng.random() < 0.5:
         lend_counted(rng, lent)
     if name == "build" and holds(lent) != reference.NOTHING and rng.random() < 0.4:
         lend_board(rng, lent)
@@ -194,6 +283,7 @@ def large(rng):
     lending.lend_file(rng, lent, cases.random_table(rng, n, m))
     names = ["load", "cared", "build"] + ["evaluate"] * 5 + ["evaluate_rows", "build", "swap"]
     names += ["count", "build"] + ["evaluate"] * 3 + ["evaluate_rows"]
+    names += ["build", "write_cells", "read_cells", "evaluate_rows", "write_cells", "build"]
     if n * m * 2**n <= MOST_BITS_TRIED:
         names += ["sift", "build", "evaluate"]
     if n * n * m * 2**n <= MOST_BITS_TRIED:
@@ -204,10 +294,17 @@ def large(rng):
             lending.lend_rows_near(rng, lent, n)
         if name == "build" and rng.random() < 0.3:
             lend_board(rng, lent)
+        if name == "write_cells":
+            lending.lend_file_space(rng, lent)
+        if name == "read_cells":
+            lending.lend_written(lent)
         yield Call(name, lending.numbers_near(rng, name, n), lent, "a larger table")
 
 
-SCENES = {single: 70, loads: 8, boards: 4, diagram_calls: 9, chain: 14, large: 2}
+SCENES = {
+    single: 70, loads: 8, boards: 4, diagram_calls: 9, reads: 8, written_and_read: 8, chain: 14,
+    large: 2,
+}
 
 
 def random_calls(rng):

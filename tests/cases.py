@@ -1,9 +1,4 @@
-"""The cases of the comparison: fixed ones and random ones.
-
-A group is a list of cases that one worker makes and runs. Groups are named,
-and a random group is made from the seed and its own name alone, so any one
-can be run again by itself.
-"""
+"""The cases of the comparison on table files: fixed ones and random ones."""
 
 import itertools
 import random
@@ -12,7 +7,7 @@ from collections import namedtuple
 import expected
 import files
 
-# `program` is "print" or "desk"; `words` are the words of the command.
+# `program` is "print", "desk" or "cells"; `words` are the words of the command.
 Case = namedtuple("Case", "program words table")
 
 LARGEST = expected.LARGEST_NUMBER
@@ -23,8 +18,9 @@ def desk(table, command):
     return Case("desk", command.split(), table)
 
 
-def with_print(case):
-    return [Case("print", [], case.table), case]
+def with_others(case):
+    """A case of the desk, and the same file to the programs without words."""
+    return [Case("print", [], case.table), Case("cells", [], case.table), case]
 
 
 # Section 9.
@@ -33,7 +29,7 @@ def with_print(case):
 def paper_cases():
     two_ands = files.table_file(4, 1, [0, 1, 2, 3], bits_of(0xF888, 16), [1] * 16)
     mixed = files.table_file(4, 1, [0, 2, 1, 3], bits_of(0xF888, 16), [1] * 16)
-    look = "count build state order cells rows cared"
+    look = "count write build state order cells rows cared write"
     rows = [
         ["1"], ["0"], ["-"], ["0 0 0 1"], ["1 1 1 0"], ["0 0 0 1", "1 1 1 0"],
         ["0 1 1 0"], ["0 1 0 1"], ["0 0 0 -"], ["0 1 1 -"], ["0 1 - 1"],
@@ -49,7 +45,7 @@ def paper_cases():
     cases.append(desk(files.table_from_rows(["0 1"]), "build swap 0 state"))
     no_inputs = files.table_from_rows(["1"])
     cases.append(desk(no_inputs, f"build pass 0 state pass {LARGEST} sift 0 swap 0 order"))
-    return [each for case in cases for each in with_print(case)]
+    return [each for case in cases for each in with_others(case)]
 
 
 def bits_of(number, length):
@@ -77,7 +73,7 @@ def length_cases():
     for file in (sound, spoiled):
         for length in lengths:
             table = file[:length].ljust(length, b"\0")
-            cases += with_print(desk(table, "count"))
+            cases += with_others(desk(table, "count"))
     return cases
 
 
@@ -95,23 +91,14 @@ def damage_cases(base, part, parts):
     """One share of all the single damages and pairs of them to a base."""
     sound = DAMAGE_BASES[base]()
     damages = files.all_damages(sound)
-    sets = [[damage] for damage in damages] + damage_pairs(damages)
+    sets = [[damage] for damage in damages] + files.pairs_of(damages)
     cases = []
     for at in range(part, len(sets), parts):
         table = files.damaged(sound, sets[at])
-        both = with_print(Case("desk", ["state"], table))
-        # A single goes to both programs, a pair to one of them in turn.
-        cases += both if len(sets[at]) == 1 else [both[(at // parts) % 2]]
+        each = with_others(Case("desk", ["state"], table))
+        # A single goes to all programs, a pair to one of them in turn.
+        cases += each if len(sets[at]) == 1 else [each[(at // parts) % 3]]
     return cases
-
-
-def damage_pairs(damages):
-    """All pairs, but for two changes of length: they may undo each other."""
-    pairs = itertools.combinations(damages, 2)
-    return [
-        list(pair) for pair in pairs
-        if not all(damage.turn == files.LENGTH_TURN for damage in pair)
-    ]
 
 
 def word_cases():
@@ -289,7 +276,7 @@ def board_words(rng, table, words):
 def random_step(rng, table, words, sifting):
     """The words of one step: a change or question, and what shows it."""
     n = table[4]
-    kinds = ["board", "swap", "eval", "evals", "count", "build"]
+    kinds = ["board", "swap", "eval", "evals", "count", "build", "write"]
     kinds += ["sift", "sift", "pass", "pass"] if sifting else []
     kind = rng.choice(kinds)
     if kind == "board":
@@ -300,6 +287,8 @@ def random_step(rng, table, words, sifting):
         return ["evals", list_of(rows_near(rng, n))]
     if kind == "count":
         return ["count", "state", "cells"]
+    if kind == "write":
+        return ["write", "state"]
     if kind == "build":
         return ["board", str(MOST_CELLS), "build", "cells", "cared"]
     number = limit_near(rng, n) if kind == "pass" else number_near(rng, n)
@@ -311,7 +300,7 @@ def random_script(rng, table, step_count, sifting):
     for _ in range(step_count):
         words += random_step(rng, table, words, sifting)
     last = ["board", str(MOST_CELLS), "build", "cells"] if rng.random() < 0.8 else []
-    return words + last + ["rows"]
+    return words + last + ["rows", "write"]
 
 
 # How many of a hundred random tables have n inputs, n from 0.
@@ -319,7 +308,7 @@ SHARES = (4, 6, 12, 20, 24, 14, 9, 6, 3, 1, 1)
 
 
 def random_cases(rng):
-    """One table through both programs; the larger it is, the less is asked."""
+    """One table through all programs; the larger it is, the less is asked."""
     n = rng.choices(range(11), SHARES)[0]
     m = rng.choice((1, 1, 2, 2, 3, 4, rng.randint(1, 16)))
     if n >= 8:
@@ -327,7 +316,7 @@ def random_cases(rng):
     table = random_table(rng, n, m)
     step_count = rng.randint(2, 9) if n <= 6 else 3
     words = random_script(rng, table, step_count, sifting=n <= 6)
-    return with_print(Case("desk", words, table))
+    return with_others(Case("desk", words, table))
 
 
 def size_cases(rng, n):
@@ -338,7 +327,7 @@ def size_cases(rng, n):
         density = 0.05 if n > 7 else 0.5
         care = [int(rng.random() < density) for _ in range(m << n)]
         table = files.table_file(n, m, random_order(rng, n), values, care)
-        cases += with_print(desk(table, "cared count build cells"))
+        cases += with_others(desk(table, "cared count build cells"))
         cases.append(desk(table[: -files.BLOCK], "count"))
         cases.append(desk(table + table[-files.BLOCK :], "count"))
     return cases
@@ -352,10 +341,10 @@ def large_cases(rng, density):
     table = files.table_file(n, m, random_order(rng, n), values, care)
     words = board_words(rng, table, []) + ["swap", str(rng.randrange(n - 1))]
     words += board_words(rng, table, words) + ["board", "2159", "build"]
-    words += ["eval", "1023", "eval", "1024", "eval", str(rng.randrange(1024)), "cells"]
+    words += ["eval", "1023", "eval", "1024", "eval", str(rng.randrange(1024)), "cells", "write"]
     words += ["rows"] if density < 0.3 else []
     words += ["sift", str(rng.randrange(n)), "order"] if density < 0.1 else []
-    return with_print(Case("desk", words, table))
+    return with_others(Case("desk", words, table))
 
 
 def long_sift_cases(rng, n, m, sifting):
@@ -376,37 +365,5 @@ def widest_cases(rng):
         inverted = rng.choice((0, 0xFFFF))
         bits += bits_of(function ^ inverted, 16)
     table = files.table_file(10, 16, range(10), bits, [1] * len(bits))
-    command = "count board 2158 build state cells board 2159 build state cells eval 777"
-    return with_print(desk(table, command))
-
-
-def groups(seed, random_count):
-    """All groups as (name, function that makes the cases), longest first."""
-    made = {}
-
-    def seeded(name, make, *arguments):
-        made[name] = lambda: make(random.Random(f"{seed} {name}"), *arguments)
-
-    for density in (1, 0.9, 0.5, 0.2, 0.05, 0.01):
-        seeded(f"large {density}", large_cases, density)
-    seeded("widest", widest_cases)
-    for i in range(4):
-        seeded(f"sift 8 {i}", long_sift_cases, 8, 4, ["sift", "3", "sift", "7"])
-        seeded(f"sift 10 {i}", long_sift_cases, 10, 2, ["sift", "9"])
-        seeded(f"pass 7 {i}", long_sift_cases, 7, 3, ["pass", "49"])
-        seeded(f"pass 8 {i}", long_sift_cases, 8, 2, ["pass", "23"])
-    for n in range(11):
-        seeded(f"size {n}", size_cases, n)
-    seeded("pass 10", long_sift_cases, 10, 1, ["pass", str(LARGEST)])
-    made["paper"] = paper_cases
-    made["lengths"] = length_cases
-    made["words"] = word_cases
-    made["lists"] = list_cases
-    for base, parts in (("tiny", 2), ("small", 4), ("large", 16)):
-        for part in range(parts):
-            made[f"damage {base} {part}"] = (
-                lambda base=base, part=part, parts=parts: damage_cases(base, part, parts)
-            )
-    for i in range(random_count):
-        seeded(f"random {i}", random_cases)
-    return made
+    command = "count board 2158 build state cells board 2159 build state cells eval 777 write"
+    return with_others(desk(table, command))

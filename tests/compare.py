@@ -1,11 +1,11 @@
-"""Compares the programs `print` and `desk` with the reference.
+"""Compares the programs `print`, `desk` and `cells` with the reference.
 
-    python3 tests/compare.py --print PATH --desk PATH [--seed S] [--cases N]
+    python3 tests/compare.py --print PATH --desk PATH --cells PATH [--seed S] [--cases N]
 
-Each case is one run of a program on one table, and its whole output must be
-the expected text. On a difference the seed, the command and both texts are
+Each case is one run of a program on one file, and its whole output must be
+the expected one. On a difference the seed, the command and both texts are
 shown and the exit status is 1; a group of cases ends at its first difference.
-`--only NAME` runs one group again; `--keep FILE` writes the table of the first
+`--only NAME` runs one group again; `--keep FILE` writes the file of the first
 difference there.
 """
 
@@ -17,14 +17,16 @@ import subprocess
 import sys
 from collections import namedtuple
 
-import cases
 import expected
+import groups
 
 WORKERS = 2
 SECONDS_PER_RUN = 60
 MOST_SHOWN = 3
 # A long text is shown from a little above its first differing line.
 MOST_LINES_SHOWN = 60
+# An output that is no text is shown in lines of so many bytes.
+BYTES_IN_LINE = 16
 LINES_ABOVE = 10
 # A Rust program that panics ends with this status.
 PANIC_STATUS = 101
@@ -32,14 +34,21 @@ PANIC_STATUS = 101
 Difference = namedtuple("Difference", "group case wanted printed")
 
 
+def as_text(output):
+    """An output as lines: text as it stands, other bytes as numbers, 16 a line."""
+    if output.isascii() and 0 not in output:
+        return output.decode()
+    starts = range(0, len(output), BYTES_IN_LINE)
+    lines = [output[at : at + BYTES_IN_LINE].hex(" ") for at in starts]
+    return "".join(f"{at:5}: {line}\n" for at, line in zip(starts, lines))
+
+
 def expected_text(case):
-    if case.program == "print":
-        return expected.print_text(case.table)
-    return expected.desk_text(case.table, case.words)
+    return as_text(expected.output_of(case.program, case.table, case.words))
 
 
 def printed_text(path, case):
-    """What the program prints; a crash is told as a text no table gives.
+    """What the program prints; a crash is told as a text no file gives.
 
     The texts don't rule the exit status, so it isn't compared otherwise.
     """
@@ -50,7 +59,7 @@ def printed_text(path, case):
         )
     except subprocess.TimeoutExpired:
         return f"no end within {SECONDS_PER_RUN} seconds\n"
-    text = run.stdout.decode("utf-8", "backslashreplace")
+    text = as_text(run.stdout)
     if run.returncode < 0 or run.returncode == PANIC_STATUS:
         complaint = run.stderr.decode("utf-8", "backslashreplace")
         return f"{text}crash, status {run.returncode}: {complaint}\n"
@@ -60,7 +69,7 @@ def printed_text(path, case):
 def run_group(job):
     """In a worker: how many cases were compared, and the first difference."""
     name, seed, random_count, paths = job
-    made = cases.groups(seed, random_count)[name]()
+    made = groups.groups(seed, random_count)[name]()
     for done, case in enumerate(made, 1):
         wanted = expected_text(case)
         printed = printed_text(paths[case.program], case)
@@ -98,7 +107,7 @@ def show(difference, seed, paths):
     head = " ".join(str(byte) for byte in case.table[4:16])
     print(f"difference: seed {seed}, group {difference.group!r}")
     print(f"command: {readable(command)}")
-    print(f"table: {len(case.table)} bytes, from byte 4: {head}")
+    print(f"file: {len(case.table)} bytes, from byte 4: {head}")
     differing = first_differing_line(difference.wanted, difference.printed)
     print(f"first differing line: {differing}")
     print(f"expected:\n{shown(difference.wanted, differing)}")
@@ -124,10 +133,11 @@ def arguments():
     parser = argparse.ArgumentParser(description=__doc__.splitlines()[0])
     parser.add_argument("--print", required=True, dest="print_path")
     parser.add_argument("--desk", required=True, dest="desk_path")
+    parser.add_argument("--cells", required=True, dest="cells_path")
     parser.add_argument("--seed", type=int, default=1)
     parser.add_argument("--cases", type=int, default=1000, help="random tables")
     parser.add_argument("--only", help="the one group of cases to run")
-    parser.add_argument("--keep", help="where to write the first difference's table")
+    parser.add_argument("--keep", help="where to write the first difference's file")
     return parser.parse_args()
 
 
@@ -136,11 +146,12 @@ def main():
     paths = {
         "print": os.path.abspath(given.print_path),
         "desk": os.path.abspath(given.desk_path),
+        "cells": os.path.abspath(given.cells_path),
     }
     for path in paths.values():
         if not os.access(path, os.X_OK):
             sys.exit(f"no program at {path}")
-    names = list(cases.groups(given.seed, given.cases))
+    names = list(groups.groups(given.seed, given.cases))
     if given.only is not None:
         if given.only not in names:
             sys.exit(f"no group {given.only!r}")

@@ -22,6 +22,7 @@ from concurrent.futures.process import BrokenProcessPool
 
 import calls
 import library
+import network_files
 import reference
 import show_calls
 
@@ -35,7 +36,8 @@ POSSIBLE = {
     "load": (0, 1, 2, 3, 4, 5, 6, 7, 10), "cared": (0, 10, 21), "count": (0, 10, 21),
     "build": (0, 10, 21, 23), "evaluate": (0, 8, 10, 22, 24),
     "evaluate_rows": (0, 8, 10, 22, 24, 31), "swap": (0, 9, 10, 21), "sift": (0, 9, 10, 21),
-    "pass": (0, 10, 21),
+    "pass": (0, 10, 21), "write_cells": (0, 10, 22, 24, 32),
+    "read_cells": (0, 1, 2, 3, 4, 5, 6, 7, 10, 23, 24, 32),
 }
 
 # `calls` were compared; `given` counts (call, number); `text` shows a difference.
@@ -53,7 +55,8 @@ def share(array):
 
 def function_of(name):
     """The reference has the same names, but `pass` is a word of Python."""
-    return getattr(reference, "sift_pass" if name == "pass" else name)
+    module = network_files if name in ("write_cells", "read_cells") else reference
+    return getattr(module, "sift_pass" if name == "pass" else name)
 
 
 def by_reference(call, lent):
@@ -202,6 +205,10 @@ def main():
     path = os.path.abspath(given.library)
     if not os.path.isfile(path):
         sys.exit(f"no library at {path}")
+    try:
+        library.Library(path)
+    except library.MissingCalls as missing:
+        sys.exit(str(missing))
     chunks = chunks_of(given)
     share(multiprocessing.RawArray("L", chunks.stop))
     try:

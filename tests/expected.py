@@ -1,7 +1,7 @@
-"""What `print` and `desk` must print, word for word, by the reference.
+"""What `print`, `desk` and `cells` must print, word for word, by the reference.
 
-`python3 tests/expected.py print < TABLE` and
-`python3 tests/expected.py desk WORD.. < TABLE` show it to a person.
+`python3 tests/expected.py print < TABLE`, `python3 tests/expected.py cells < TABLE`
+and `python3 tests/expected.py desk WORD.. < TABLE` show it to a person.
 
 Decisions where the texts leave room:
 - `desk` answers input over 65,536 bytes with `load 1 0`, its own form of the
@@ -19,10 +19,18 @@ Decisions where the texts leave room:
 - After a success `evals` prints the lines of its rows in the list's sequence, in
   the form that `rows` has. The answers are always as many as the rows, so 31
   never comes up.
+- `cells` writes a table file's network file, document 02's 2.2, built in the
+  file's order with 2,159 cells; a refusal is the one line that `print` gives.
+- `desk` takes a network file too, told by byte 0 being 4: its first line is then
+  `read NUMBER VALUE`, on a board of 2,159, and after `read 0 0` it goes on as after
+  a load. Input over 65,536 bytes stays `load 1 0`.
+- `write` calls the writer with the cells as they are, whatever the board, and
+  after a success prints `block K C` for each block, C its check.
 """
 
 import sys
 
+import network_files
 import reference
 
 LONGEST_INPUT = 65536
@@ -31,7 +39,7 @@ MOST_CELLS = 2159
 LARGEST_ROW = 65535
 LONGEST_LIST = 4096
 
-PLAIN_WORDS = ("count", "build", "order", "state", "cells", "rows", "cared")
+PLAIN_WORDS = ("count", "build", "order", "state", "cells", "rows", "cared", "write")
 NUMBER_WORDS = ("swap", "sift", "pass", "eval", "evals", "board")
 
 
@@ -51,6 +59,20 @@ class Desk:
         if len(file) > LONGEST_INPUT:
             return 1, 0
         return reference.load(self.state, file, self.values, self.care)
+
+    def read(self, file):
+        return network_files.read_cells(
+            self.state, file, self.values, self.care, self.work, self.roots, self.cells
+        )
+
+    def begin(self, file):
+        """The first line, and whether it is a success."""
+        is_network = file[:1] == bytes([network_files.HEADING_KIND])
+        if is_network and len(file) <= LONGEST_INPUT:
+            word, (refusal, value) = "read", self.read(file)
+        else:
+            word, (refusal, value) = "load", self.load(file)
+        return f"{word} {refusal} {value}", refusal == 0
 
     def build(self):
         """Builds into the board's part of the cells only."""
@@ -112,6 +134,25 @@ class Desk:
             return lines
         return lines + [f"row {row} 0 {answer}" for row, answer in zip(rows, answers)]
 
+    def written(self):
+        """The writer's answer, and the file it wrote."""
+        space = bytearray(network_files.FILE_BYTES)
+        answer = network_files.write_cells(
+            self.state, self.roots, self.cells, self.work, space
+        )
+        blocks = network_files.blocks_for(self.state.count)
+        return answer, bytes(space[: reference.BLOCK_BYTES * blocks])
+
+    def write_lines(self):
+        (refusal, value), file = self.written()
+        lines = [f"write {refusal} {value}"]
+        if refusal:
+            return lines
+        for at in range(0, len(file), reference.BLOCK_BYTES):
+            block = file[at : at + reference.BLOCK_BYTES]
+            lines.append(f"block {len(lines) - 1} {reference.stored_check(block)}")
+        return lines
+
     def say(self, word, number):
         """The lines that one word of the command prints."""
         if word == "board":
@@ -129,6 +170,8 @@ class Desk:
             return [self.cared_line()]
         if word == "evals":
             return self.list_lines(number)
+        if word == "write":
+            return self.write_lines()
         refusal, value = self.call(word, number)
         return [f"{word} {refusal} {value}"]
 
@@ -182,9 +225,9 @@ def as_text(lines):
 
 def desk_text(file, words):
     desk = Desk()
-    refusal, value = desk.load(file)
-    lines = [f"load {refusal} {value}"]
-    if refusal:
+    first_line, begun = desk.begin(file)
+    lines = [first_line]
+    if not begun:
         return as_text(lines)
     for word, number in steps(words):
         if word == "bad word":
@@ -206,11 +249,28 @@ def print_text(file):
     return as_text(lines + desk.cell_lines())
 
 
+def cells_output(file):
+    """The network file, or the line of a refusal, as bytes."""
+    desk = Desk()
+    refusal, _ = desk.load(file)
+    if not refusal:
+        refusal, _ = desk.build()
+    if not refusal:
+        (refusal, _), written = desk.written()
+    return f"refused {refusal}\n".encode() if refusal else written
+
+
+def output_of(program, file, words):
+    """All that a program must write, as bytes."""
+    if program == "cells":
+        return cells_output(file)
+    text = print_text(file) if program == "print" else desk_text(file, words)
+    return text.encode()
+
+
 def main():
     file = sys.stdin.buffer.read()
-    program, words = sys.argv[1], sys.argv[2:]
-    text = print_text(file) if program == "print" else desk_text(file, words)
-    sys.stdout.write(text)
+    sys.stdout.buffer.write(output_of(sys.argv[1], file, sys.argv[2:]))
 
 
 if __name__ == "__main__":

@@ -5,6 +5,7 @@ it, so that one slip cannot hide in both. A damaged file's checks are right
 again afterwards unless the damage is to a check.
 """
 
+import itertools
 from collections import namedtuple
 
 BLOCK = 512
@@ -144,7 +145,7 @@ def check_damages(file, block):
 def frame_damages(file, block):
     """Kind, byte 1 and number: refusal 3, for any block."""
     kind = file[block * BLOCK]
-    wrong_kinds = [wrong for wrong in (0, 1, 2, 3, 255) if wrong != kind]
+    wrong_kinds = [wrong for wrong in (0, 1, 2, 3, 4, 5, 255) if wrong != kind]
     damages = [byte_damage(block, 3, 0, wrong) for wrong in wrong_kinds]
     damages.append(byte_damage(block, 3, 1, 1))
     damages.append(byte_damage(block, 3, 2, block + 1))
@@ -152,7 +153,8 @@ def frame_damages(file, block):
     return damages
 
 
-def heading_damages(file):
+def size_damages(file):
+    """n, m and the order: refusals 4, 5 and 6, for any heading."""
     n = file[4]
     damages = [byte_damage(0, 4, 4, wrong) for wrong in (11, 255)]
     damages += [byte_damage(0, 5, 5, wrong) for wrong in (0, 17, 255)]
@@ -160,9 +162,12 @@ def heading_damages(file):
         damages.append(byte_damage(0, 6, 6, n))
     if n > 1:
         damages.append(byte_damage(0, 6, 5 + n, file[6]))
-    damages.append(byte_damage(0, 7, 6 + n, 1))
-    damages.append(byte_damage(0, 7, 509, 128))
     return damages
+
+
+def heading_damages(file):
+    unused = [byte_damage(0, 7, 6 + file[4], 1), byte_damage(0, 7, 509, 128)]
+    return size_damages(file) + unused
 
 
 def unused_damages(file, block):
@@ -184,20 +189,27 @@ def length_damages(file):
         Damage("empty", 1, 0, LENGTH_TURN, lambda file: b""),
         Damage("a byte short", 1, 0, LENGTH_TURN, lambda file: file[:-1]),
         Damage("a byte long", 1, 0, LENGTH_TURN, lambda file: file + b"\0"),
-        Damage("a block short", 1, COUNT_RANK, LENGTH_TURN, lambda file: file[:-BLOCK]),
-        Damage("heading alone", 1, COUNT_RANK, LENGTH_TURN, lambda file: file[:BLOCK]),
         Damage("last block twice", 1, COUNT_RANK, LENGTH_TURN, lambda file: file + last),
         Damage("a zero block more", 1, COUNT_RANK, LENGTH_TURN, lambda file: file + bytes(BLOCK)),
     ]
-    other_sizes = [m for m in (1, 16) if block_count(file[4], m) * BLOCK != len(file)]
-    for m in other_sizes:
-        damages.append(
-            Damage(
-                f"m is {m}, for other blocks", 1, COUNT_RANK, SIZE_TURN,
-                lambda file, m=m: with_byte(file, 0, 5, m),
-            )
-        )
+    if len(file) > BLOCK:
+        damages += [
+            Damage("a block short", 1, COUNT_RANK, LENGTH_TURN, lambda file: file[:-BLOCK]),
+            Damage("heading alone", 1, COUNT_RANK, LENGTH_TURN, lambda file: file[:BLOCK]),
+        ]
     return damages
+
+
+def output_damages(file):
+    """An m that wants other blocks."""
+    other_sizes = [m for m in (1, 16) if block_count(file[4], m) * BLOCK != len(file)]
+    return [
+        Damage(
+            f"m is {m}, for other blocks", 1, COUNT_RANK, SIZE_TURN,
+            lambda file, m=m: with_byte(file, 0, 5, m),
+        )
+        for m in other_sizes
+    ]
 
 
 def block_count(n, m):
@@ -206,7 +218,7 @@ def block_count(n, m):
 
 def all_damages(file):
     """Every damage worth a try to a sound file."""
-    damages = length_damages(file) + heading_damages(file)
+    damages = length_damages(file) + output_damages(file) + heading_damages(file)
     for block in range(len(file) // BLOCK):
         damages += check_damages(file, block) + frame_damages(file, block)
         if block > 0:
@@ -218,6 +230,21 @@ def damaged(file, damages):
     for damage in sorted(damages, key=lambda damage: damage.turn):
         file = damage.apply(file)
     return file
+
+
+def may_undo(damages):
+    """Changes of length, or of what says the blocks: two may undo each other."""
+    return all(damage.number == 1 for damage in damages)
+
+
+def pairs_of(damages):
+    return [list(pair) for pair in itertools.combinations(damages, 2) if not may_undo(pair)]
+
+
+def some_damages(rng, damages):
+    """One of them or two."""
+    chosen = rng.sample(damages, rng.randint(1, 2))
+    return chosen[:1] if may_undo(chosen) else chosen
 
 
 def refusal_due(damages):

@@ -10,7 +10,9 @@ import functools
 import cases
 import files
 import fixed_diagrams
+import fixed_reads
 import fixed_rows
+import fixed_writes
 import lending
 import library
 import refusals
@@ -98,7 +100,7 @@ def damages(rng, base):
     """Every damage to a file, and pairs of them: all pairs to the smallest."""
     sound = cases.DAMAGE_BASES[base]()
     singles = files.all_damages(sound)
-    pairs = cases.damage_pairs(singles)
+    pairs = files.pairs_of(singles)
     if base != "tiny":
         pairs = rng.sample(pairs, 200)
     lent = lent_with(rng, Held())
@@ -166,5 +168,6 @@ CHUNKS = [
     widest, shapes, lengths_at_limits, headings, files_and_states, sizes_of_files, boards, moves,
     sizes, fixed_diagrams.all_calls, fixed_rows.all_calls,
 ]
+CHUNKS += fixed_writes.CHUNKS + fixed_reads.CHUNKS
 CHUNKS += [functools.partial(damages, base=base) for base in cases.DAMAGE_BASES]
 CHUNKS += [functools.partial(refused, name=name) for name in library.CALLS]

@@ -7,6 +7,7 @@ once; a fixed case changes one thing or two of them.
 from collections import namedtuple
 
 import cases
+import cell_files
 import files
 import lending
 import library
@@ -32,6 +33,7 @@ OUTSIDE = Asked(place=3, input=4, limit=0, row=16)
 
 FOUR_CELLS = [(0, 6, 4), (1, 6, 1), (2, 0, 8), (3, 0, 1)]
 FOUR_CELLS_NUMBERS = [number for cell in FOUR_CELLS for number in cell]
+FOUR_CELLS_NETWORK = cell_files.Network(4, 1, [2, 0, 3, 1], FOUR_CELLS, [2] + [0] * 15)
 
 
 def sound_file():
@@ -67,6 +69,10 @@ def asked_of(name, asked):
 def one(rng, name, note, held, lengths=WHOLE, asked=INSIDE, table=TWO_ANDS):
     lent = lent_with(rng, held, lengths, table)
     lending.lend_rows(rng, lent, [0, asked.row, 1], more=2)
+    if name == "read_cells":
+        lending.lend_file(rng, lent, cell_files.network_file(FOUR_CELLS_NETWORK))
+    if name == "write_cells":
+        lending.lend_file_space(rng, lent)
     return Call(name, asked_of(name, asked), lent, note)
 
 

@@ -7,8 +7,10 @@ refusal due; the functions named `broken_..`, `short_..` and `beyond` spoil it.
 import array
 
 import cases
+import cell_files
 import files
 import library
+import network_files
 import reference
 
 HUGE = 2**64 - 1
@@ -16,8 +18,9 @@ MOST_ORDERS = 2**32 - 1
 
 # The last row that a list can hold, of 16 bits.
 MOST_ROW = 65535
-# The calls that take a network which the state holds.
+# The calls that evaluate a network which the state holds, and all that take one.
 EVALUATIONS = ("evaluate", "evaluate_rows")
+HOLDERS = EVALUATIONS + ("write_cells",)
 
 # Section 2's sizes; cells, files and lists of rows have none of their own.
 SIZES = {
@@ -127,14 +130,25 @@ def lengthen(rng, lent):
         lent.lengths[name] = size + rng.choice((0, 0, 0, 1, rng.randrange(SPARE)))
 
 
-def short_length(rng, name):
-    size = SIZES[name]
+def short_length(rng, size):
     return rng.choice((0, size - 1, size - 1, rng.randrange(size)))
 
 
 def lend_file(rng, lent, file):
     """The file, and behind it bytes that are not lent."""
     lent.put("file", file + rng.randbytes(rng.choice((1, 7, 512))), len(file))
+
+
+def lend_file_space(rng, lent, length=network_files.FILE_BYTES):
+    """A dirty file buffer, to be written."""
+    lent.put("file", dirty(rng, "file", length + SPARE), length)
+
+
+def lend_written(lent):
+    """Of the file buffer just what a network was written to, to be read."""
+    file = lent.contents["file"]
+    blocks = network_files.blocks_for(cell_files.count_in(file))
+    lent.lengths["file"] = min(cell_files.BLOCK * blocks, len(file) - 1)
 
 
 def lend_rows(rng, lent, rows, more=0):
@@ -154,6 +168,13 @@ def lend_diagram(lent, cells, roots):
     lent.contents["state"][library.STAGE] = 2
 
 
+def network_of(lent):
+    """The network of the lent table in the state's order, where the state is sound."""
+    state = library.state_from(lent.contents["state"])
+    table = reference.lent_table(state, lent.contents["values"], lent.contents["care"])
+    return reference.network(table, tuple(reference.used_order(state)))
+
+
 def lent_for(rng, n, m, cells=SMALL_BOARD):
     """A sound state and dirty buffers; a file and a list of rows are lent apart."""
     lent = library.Lent()
@@ -169,10 +190,8 @@ def lent_for(rng, n, m, cells=SMALL_BOARD):
 
 
 def cost_of(lent):
-    """The cells that a build wants, where the state is sound."""
-    state = library.state_from(lent.contents["state"])
-    table = reference.lent_table(state, lent.contents["values"], lent.contents["care"])
-    return reference.cost(table, reference.used_order(state))
+    """The cells that a build wants."""
+    return len(network_of(lent)[0])
 
 
 def board_near(rng, count):

@@ -38,6 +38,8 @@ CALLS = {
     "swap": "state place",
     "sift": "state input values care work",
     "pass": "state limit values care work",
+    "write_cells": "state roots cells work file",
+    "read_cells": "state file values care work roots cells",
 }
 
 # The state's words. Those not named here are never read or changed.
@@ -113,11 +115,18 @@ class Lent:
         return copied
 
 
+class MissingCalls(Exception):
+    """The library at a path lacks calls; the text names them."""
+
+
 class Library:
     """The calls of the shared library at a path."""
 
     def __init__(self, path):
         opened = ctypes.CDLL(path)
+        missing = [f"yav_{name}" for name in CALLS if not hasattr(opened, f"yav_{name}")]
+        if missing:
+            raise MissingCalls(f"the library at {path} has no {', '.join(missing)}")
         self.functions = {name: bound(opened, name) for name in CALLS}
 
     def call(self, name, numbers, lent):

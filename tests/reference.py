@@ -8,7 +8,7 @@ or shared between steps.
 
 Every call answers (number, value). Buffers are mutable sequences of numbers:
 values, care and work hold bytes; roots, cells, rows and answers hold 16-bit
-numbers.
+numbers. Document 02's 2.2 is in network_files.py.
 """
 
 from collections import namedtuple
@@ -88,8 +88,9 @@ def frame_refusal(block, kind, number):
     return 0
 
 
-def heading_refusal(block):
-    refusal = frame_refusal(block, 1, 0)
+def heading_refusal(block, kind, unused):
+    """Block 0's numbers; `unused` gives what n and m leave unused of its content."""
+    refusal = frame_refusal(block, kind, 0)
     if refusal:
         return refusal
     n, m = block[4], block[5]
@@ -99,9 +100,13 @@ def heading_refusal(block):
         return 5
     if not is_order(list(block[6 : 6 + n]), n):
         return 6
-    if any(block[6 + n : 510]):
+    if any(unused(block)):
         return 7
     return 0
+
+
+def unused_in_heading(block):
+    return block[6 + block[4] : 510]
 
 
 def stream_block_refusal(block, number, n, m):
@@ -125,7 +130,7 @@ def file_refusal(file):
     if len(file) == 0 or len(file) % BLOCK_BYTES != 0:
         return 1
     blocks = [file[at : at + BLOCK_BYTES] for at in range(0, len(file), BLOCK_BYTES)]
-    refusal = heading_refusal(blocks[0])
+    refusal = heading_refusal(blocks[0], 1, unused_in_heading)
     if refusal:
         return refusal
     n, m = blocks[0][4], blocks[0][5]

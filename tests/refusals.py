@@ -1,21 +1,28 @@
 """Makes refusals due, one or several at once, in what a call is lent.
 
 Every argument of a call but a limit can be spoilt in its own way, and so can
-the state's words. Of several refusals the paper's sequence names the one that
-is answered, so each pair and each three of them are worth a call.
+the state's words and what a network's cells say. Of several refusals the
+paper's sequence names the one that is answered, so each pair and each three of
+them are worth a call.
 """
 
 import itertools
 
 import cases
+import cell_files
 import diagrams
 import files
 import lending
 import library
+import network_files
+import networks
 from library import Call
 
-# Not an argument: the state's words break a rule, or hold no table or network.
-WORDS = "words"
+# Not arguments: the state's words break a rule, or hold no table or network; a
+# file's cells break a rule of number 24; cells that are not section 4's network.
+WORDS, BREACH, NEAR = "words", "breach", "near"
+# What is spoilt first: the cells' content before its length, and that before the file.
+FIRST = (NEAR, BREACH, "cells")
 # How many refusals are due at once, at most.
 AT_ONCE = 3
 
@@ -23,34 +30,57 @@ AT_ONCE = 3
 def kinds_of(name):
     """What can be spoilt in a call; load takes any state, and that too is tried."""
     arguments = library.arguments_of(name)
-    return [argument for argument in arguments if argument != "limit"] + [WORDS]
+    more = {"write_cells": [NEAR], "read_cells": [NEAR, BREACH]}.get(name, [])
+    return [argument for argument in arguments if argument != "limit"] + [WORDS] + more
 
 
 def damaged_file(rng, file):
-    """One or two damages; two changes of length may undo each other."""
-    damages = files.all_damages(file)
-    chosen = rng.choice([[rng.choice(damages)], rng.sample(damages, 2)])
-    if all(damage.turn == files.LENGTH_TURN for damage in chosen):
-        chosen = chosen[:1]
-    return files.damaged(file, chosen)
+    """One or two damages to a table file or a network file."""
+    kind = cell_files if file[0] == cell_files.HEADING_KIND else files
+    return files.damaged(file, files.some_damages(rng, kind.all_damages(file)))
 
 
 def spoil_words(rng, call):
-    """For an evaluation a table alone is too little as well."""
+    """Where a network is wanted a table alone is too little as well."""
     words = call.lent.contents["state"]
-    if call.name in lending.EVALUATIONS and rng.random() < 0.3:
+    if call.name in lending.HOLDERS and rng.random() < 0.3:
         words[library.STAGE] = 1
     else:
         lending.broken_state(rng, words)
 
 
-def break_lent_diagram(rng, lent):
+def held_network(lent):
+    """The counted cells and the first m roots, where the state is sound."""
     words = lent.contents["state"]
     n, m, count = words[library.N], words[library.M], words[library.COUNT]
-    numbers, roots = lent.contents["cells"], list(lent.contents["roots"])
+    numbers, order = lent.contents["cells"], list(words[library.ORDER][:n])
     cells = [tuple(numbers[3 * i : 3 * i + 3]) for i in range(count)]
-    diagrams.break_diagram(rng, n, m, cells, roots)
-    lending.lend_diagram(lent, cells, roots)
+    return cell_files.Network(n, m, order, cells, list(lent.contents["roots"][:m]))
+
+
+def break_lent_diagram(rng, lent):
+    held = held_network(lent)
+    diagrams.break_diagram(rng, held.n, held.m, held.cells, held.roots)
+    lending.lend_diagram(lent, held.cells, held.roots)
+
+
+def break_filed_diagram(rng, lent):
+    """The same in the lent file, which is sound so far."""
+    filed = cell_files.network_in(bytes(lent.part("file")))
+    diagrams.break_diagram(rng, filed.n, filed.m, filed.cells, filed.roots)
+    lending.lend_file(rng, lent, cell_files.network_file(filed))
+
+
+def spoil_network(rng, call):
+    """A near network in the lent cells or in the lent file; without inputs there is none."""
+    lent = call.lent
+    filed = call.name == "read_cells"
+    sound = cell_files.network_in(bytes(lent.part("file"))) if filed else held_network(lent)
+    near = networks.some_near(rng, sound)
+    if near and filed:
+        lending.lend_file(rng, lent, cell_files.network_file(near))
+    elif near:
+        lending.lend_diagram(lent, near.cells, near.roots[: near.m])
 
 
 def lend_too_few_cells(rng, lent):
@@ -63,9 +93,17 @@ def lend_too_few_cells(rng, lent):
         words[library.COUNT] = rng.choice((one_more, 2**63, (2**64 + 2) // 3, lending.HUGE))
 
 
-def spoil_cells(rng, call):
+def cells_wanted(call):
+    """What 23 goes by: a build's network, or the file's count."""
     if call.name == "build":
-        wanted = 3 * lending.cost_of(call.lent)
+        return lending.cost_of(call.lent)
+    return cell_files.count_in(call.lent.part("file"))
+
+
+def spoil_cells(rng, call):
+    """A board too small; or cells too few, or with a breach."""
+    if call.name in ("build", "read_cells"):
+        wanted = 3 * cells_wanted(call)
         call.lent.lengths["cells"] = max(0, wanted - rng.choice((1, 2, 3, wanted)))
     elif rng.random() < 0.7:
         break_lent_diagram(rng, call.lent)
@@ -92,29 +130,40 @@ def spoil_answers(rng, lent):
     lent.lengths["answers"] = rng.choice((0, rows - 1, rows - 1, rng.randrange(rows)))
 
 
+def spoil_file(rng, call):
+    """Damages to a file that is read; a file buffer too short to be written."""
+    lent = call.lent
+    if call.name == "write_cells":
+        lent.lengths["file"] = lending.short_length(rng, network_files.FILE_BYTES)
+    else:
+        lending.lend_file(rng, lent, damaged_file(rng, bytes(lent.part("file"))))
+
+
+SPOIL_CALL = {WORDS: spoil_words, NEAR: spoil_network, "cells": spoil_cells, "file": spoil_file}
+SPOIL_LENT = {BREACH: break_filed_diagram, "rows": spoil_rows, "answers": spoil_answers}
+
+
 def spoil(rng, call, kind):
     """The call with one refusal more, or now and then with none more."""
     lent = call.lent
-    if kind == WORDS:
-        spoil_words(rng, call)
-    elif kind == "cells":
-        spoil_cells(rng, call)
-    elif kind == "file":
-        lending.lend_file(rng, lent, damaged_file(rng, bytes(lent.part("file"))))
-    elif kind == "rows":
-        spoil_rows(rng, lent)
-    elif kind == "answers":
-        spoil_answers(rng, lent)
+    if kind in SPOIL_CALL:
+        SPOIL_CALL[kind](rng, call)
+    elif kind in SPOIL_LENT:
+        SPOIL_LENT[kind](rng, lent)
     elif kind in library.NUMBERS:
         n = lent.contents["state"][library.N]
         call.numbers[kind] = lending.beyond(rng, lending.first_beyond(kind, n))
     else:
-        lent.lengths[kind] = lending.short_length(rng, kind)
+        lent.lengths[kind] = lending.short_length(rng, lending.SIZES[kind])
+
+
+def turn_of(kind):
+    """The words last: the others go by a sound state."""
+    return FIRST.index(kind) if kind in FIRST else len(FIRST) + (kind == WORDS)
 
 
 def spoil_all(rng, call, kinds):
-    """The words last: the others go by a sound state."""
-    for kind in sorted(kinds, key=lambda kind: kind == WORDS):
+    for kind in sorted(kinds, key=turn_of):
         spoil(rng, call, kind)
 
 
@@ -125,6 +174,12 @@ def sound_call(rng, name, n, m):
         lending.lend_file(rng, lent, cases.random_table(rng, n, m))
     if name in lending.EVALUATIONS:
         lending.lend_diagram(lent, *diagrams.random_diagram(rng, n, m))
+    if name == "write_cells":
+        lending.lend_diagram(lent, *lending.network_of(lent))
+        lending.lend_file_space(rng, lent)
+    if name == "read_cells":
+        network = networks.of_table(cases.random_table(rng, n, m))
+        lending.lend_file(rng, lent, cell_files.network_file(network))
     if name == "evaluate_rows":
         lending.lend_rows_near(rng, lent, n)
     return Call(name, lending.numbers_near(rng, name, n), lent, "one call")

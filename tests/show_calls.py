@@ -37,7 +37,7 @@ def slice_text(name, lent, words):
     if name in ("rows", "answers"):
         return f"{text}: {shown(content[:length])}"
     if name == "file":
-        return f"{text}: byte 4 on {shown(content[4:min(18, length)])}"
+        return f"{text}: byte 0 on {shown(content[:length])}"
     return text
 
 

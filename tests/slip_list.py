@@ -18,13 +18,17 @@ SHORT_TABLE = "    if table_buffers_short(values, care, work):\n        return 1
 NO_TABLE = "    if stage_of(state) == NOTHING:\n        return 21, 0\n"
 PLACE_BEYOND = "    if place + 1 >= state.n:\n        return 9, 0\n"
 INPUT_BEYOND = "    if sifted_input >= state.n:\n        return 9, 0\n"
-FRAME = "    refusal = frame_refusal(block, 1, 0)\n    if refusal:\n        return refusal\n"
+FRAME = "    refusal = frame_refusal(block, kind, 0)\n    if refusal:\n        return refusal\n"
 SIZES = "    n, m = block[4], block[5]\n"
 N_BEYOND = "    if n > 10:\n        return 4\n"
 M_BEYOND = "    if m == 0 or m > 16:\n        return 5\n"
 BAD_ORDER = "    if not is_order(list(block[6 : 6 + n]), n):\n        return 6\n"
-NOT_ZERO = "    if any(block[6 + n : 510]):\n        return 7\n"
-HEADING = "    refusal = heading_refusal(blocks[0])\n    if refusal:\n        return refusal\n"
+NOT_ZERO = "    if any(unused(block)):\n        return 7\n"
+HEADING = """\
+    refusal = heading_refusal(blocks[0], 1, unused_in_heading)
+    if refusal:
+        return refusal
+"""
 HEADING_SIZES = "    n, m = blocks[0][4], blocks[0][5]\n"
 BLOCK_COUNT = "    if len(blocks) != 1 + 2 * blocks_per_stream(n, m):\n        return 1\n"
 FURTHER_BLOCKS = """\

@@ -1,12 +1,13 @@
 """Tries the comparison of the calls on deliberate slips.
 
-    python3 tests/slips.py --library PATH [--seed S] [--skip-fixed]
+    python3 tests/slips.py --library PATH [--seed S] [--skip-fixed] [--named TEXT]
 
-Each slip is made in a copy of reference.py, in a folder of its own with the
-other files, and the comparison there must find a difference. A line says after
+Each slip is made in a copy of reference.py or network_files.py, in a folder of
+its own with the other files, and the comparison there must find a difference. A line says after
 how many calls, counted in the sequence of the chunks. The exit status is 1 if
 one slip is not found. Run by hand: when the calls of the comparison change.
-`--skip-fixed` leaves the fixed calls out, to see what the random ones find.
+`--skip-fixed` leaves the fixed calls out, to see what the random ones find;
+`--named TEXT` tries those alone whose name has the text in it.
 """
 
 import argparse
@@ -18,7 +19,12 @@ import sys
 import tempfile
 from pathlib import Path
 
-from slip_list import SLIPS
+import file_slips
+import slip_list
+
+# Each with the file that it is made in.
+SLIPS = [("reference.py", *slip) for slip in slip_list.SLIPS]
+SLIPS += [("network_files.py", *slip) for slip in file_slips.SLIPS]
 
 HERE = Path(__file__).resolve().parent
 LAST_LINE = re.compile(r"compared (\d+) calls, (\d+) differences")
@@ -30,14 +36,14 @@ ANSWER = re.compile(r"^  answer: expected (.*), came (.*)$", re.MULTILINE)
 def edited(text, old, new):
     found = text.count(old)
     if found != 1 or old == new:
-        raise ValueError(f"a slip's text stands {found} times in the reference: {old!r}")
+        raise ValueError(f"a slip's text stands {found} times in its file: {old!r}")
     return text.replace(old, new)
 
 
-def make_copy(folder, old, new):
+def make_copy(folder, name, old, new):
     for file in HERE.glob("*.py"):
         shutil.copy(file, folder)
-    slipped = Path(folder) / "reference.py"
+    slipped = Path(folder) / name
     slipped.write_text(edited(slipped.read_text(), old, new))
 
 
@@ -50,9 +56,9 @@ def places_in(shown):
 
 def run_slip(slip, given):
     """Whether a difference was found, and after how many calls and where."""
-    _, old, new = slip
+    name, _, old, new = slip
     with tempfile.TemporaryDirectory() as folder:
-        make_copy(folder, old, new)
+        make_copy(folder, name, old, new)
         command = [sys.executable, f"{folder}/compare_calls.py", "--first"]
         command += ["--library", given.library, "--seed", str(given.seed)]
         command += ["--skip-fixed"] if given.skip_fixed else []
@@ -71,17 +77,19 @@ def arguments():
     parser.add_argument("--library", required=True, type=os.path.abspath)
     parser.add_argument("--seed", type=int, default=1)
     parser.add_argument("--skip-fixed", action="store_true", help="random calls alone")
+    parser.add_argument("--named", default="", metavar="TEXT", help="a part of the slips' names")
     return parser.parse_args()
 
 
 def main():
     given = arguments()
     missed = 0
-    for slip in SLIPS:
+    chosen = [slip for slip in SLIPS if given.named in slip[1]]
+    for slip in chosen:
         found, told = run_slip(slip, given)
         missed += not found
-        print(f"{slip[0]}: {told}", flush=True)
-    print(f"{len(SLIPS)} slips, {missed} not found")
+        print(f"{slip[1]}: {told}", flush=True)
+    print(f"{len(chosen)} slips, {missed} not found")
     sys.exit(1 if missed else 0)
 
 

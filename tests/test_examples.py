@@ -61,6 +61,13 @@ class Examples(unittest.TestCase):
             with self.subTest(table.name):
                 self.assertEqual(table.read_bytes(), make.table_of(drawing(table.stem)))
 
+    def test_each_network_file_is_made_from_its_drawing(self):
+        networks = sorted(EXAMPLES.glob("*.cells"))
+        self.assertEqual([network.stem for network in networks], make.NETWORK_FILES)
+        for network in networks:
+            with self.subTest(network.name):
+                self.assertEqual(network.read_bytes(), make.network_file_of(drawing(network.stem)))
+
     def test_each_drawing_shows_the_network_of_its_table(self):
         for each in make.drawings():
             with self.subTest(each.name):

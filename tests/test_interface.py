@@ -1,6 +1,6 @@
-"""A test of what README shows: the header, the examples in C and Python, and the desk.
+"""A test of what README shows: the header, the examples in C and Python, and the programs.
 
-`python3 tests/test_interface.py`, after ./build. The examples and the desk must
+`python3 tests/test_interface.py`, after ./build. The examples and programs must
 print what README shows, the header must declare what the library exports and
 no more.
 """
@@ -19,6 +19,7 @@ HEADER = ROOT / "include" / "yavdocsil.h"
 STATIC = ROOT / "target" / "lib" / "libyavdocsil.a"
 SHARED = ROOT / "target" / "lib" / "libyavdocsil.so"
 DESK = ROOT / "target" / "bin" / "desk"
+CELLS = ROOT / "target" / "bin" / "cells"
 TABLE = "examples/and-or-crossed.table"
 STRICT = ["-Wall", "-Wextra", "-Werror", "-pedantic", f"-I{HEADER.parent}"]
 
@@ -56,6 +57,10 @@ class Examples(unittest.TestCase):
     def test_python(self):
         self.assertEqual(printed(sys.executable, "examples/sift.py", TABLE), self.shown)
 
+    def test_python_with_a_network_file(self):
+        command = ["examples/cells.py", TABLE, "target/and-or-crossed.cells"]
+        self.assertEqual(printed(sys.executable, *command), shown_in_readme(" ".join(["python3"] + command)))
+
     def test_c_with_the_static_library(self):
         self.compile(STATIC)
         self.assertEqual(printed(self.program, TABLE), self.shown)
@@ -65,13 +70,24 @@ class Examples(unittest.TestCase):
         self.assertEqual(printed(self.program, TABLE), self.shown)
 
 
-class Desk(unittest.TestCase):
-    def test_it_prints_what_readme_shows(self):
-        words = "count sift 1 order build evals 3,12"
-        shown = shown_in_readme(f"target/bin/desk {words} < {TABLE}")
-        with open(ROOT / TABLE, "rb") as table:
-            run = subprocess.run([DESK] + words.split(), stdin=table, capture_output=True, text=True)
-        self.assertEqual(run.stdout, shown)
+class Programs(unittest.TestCase):
+    def run_on(self, path, *command):
+        """What a program writes, given a file on standard input."""
+        with open(ROOT / path, "rb") as file:
+            return subprocess.run(command, stdin=file, capture_output=True, check=True).stdout
+
+    def test_desk_prints_what_readme_shows(self):
+        for words, path in (
+            ("count sift 1 order build evals 3,12", TABLE),
+            ("state eval 30 write", "examples/bounce-guard.cells"),
+        ):
+            shown = shown_in_readme(f"target/bin/desk {words} < {path}")
+            with self.subTest(words):
+                self.assertEqual(self.run_on(path, DESK, *words.split()).decode(), shown)
+
+    def test_cells_writes_the_example(self):
+        written = self.run_on("examples/bounce-guard.table", CELLS)
+        self.assertEqual(written, (ROOT / "examples/bounce-guard.cells").read_bytes())
 
 
 class Header(unittest.TestCase):

@@ -77,7 +77,7 @@ class Files(unittest.TestCase):
             sound = base()
             self.assertEqual(reference.file_refusal(sound), 0)
             damages = files.all_damages(sound)
-            for chosen in [[damage] for damage in damages] + cases.damage_pairs(damages):
+            for chosen in [[damage] for damage in damages] + files.pairs_of(damages):
                 refusal = reference.file_refusal(files.damaged(sound, chosen))
                 names = [damage.name for damage in chosen]
                 self.assertEqual(refusal, files.refusal_due(chosen), names)

@@ -1,32 +1,40 @@
--- What the test of number 32 answers, one test after the other.
+-- What the test of number 32 answers, one test after the other, and what a success says.
 -- Assumes nothing.
-use mathlib.Core.Path.{_≡_, _∙_}
-use mathlib.Core.Bool.{true, false}
+use mathlib.Core.Path.{_≡_, refl, _∙_}
+use mathlib.Core.Bool.{true, false, not}
 use mathlib.Core.List.{List}
 use Prim.Native.Nat.{ℕ, _/_, _≤_, _<_}
 use native.Mathlib.Omega.{arith}
 use borrow.Author.Tests.{le-leb, lt-leb}
-use lib.Dec.{T, leb}
+use lib.Dec.{T, leb, leb→le}
 use lib.ListN.{length}
-use Rattle.diagram.specs.Diagram.{wellFormed}
-use Rattle.diagram.specs.Bound.{mostOutputs, mostNodes}
+use Rattle.diagram.specs.Diagram.{Diagram, wellFormed}
+use Rattle.diagram.specs.Bound.{mostVariables, mostOutputs, mostNodes}
 use Rattle.diagram.specs.Order.{isOrder}
 use Rattle.diagram.specs.Canonical.{canonical}
 use Rattle.diagram.specs.inner.Structure.{structured}
-use Rattle.diagram.proofs.Bools.{split, to-T, and-r}
+use Rattle.diagram.proofs.Bools.{split, of-T, to-T, and-r}
 use Rattle.diagram.proofs.UpTo.{length-map-upTo}
 use Rattle.diagram.proofs.Canonical.{network-iff, canonical-count}
 use Rattle.table.specs.declared.Answer.the-variants.{Done, ShortBuffer, NoNetwork, BadCells, NotCanonical}
 use Rattle.table.specs.declared.State.{State}
-use Rattle.table.specs.State.{orderOf, stageOf, isNetwork}
+use Rattle.table.specs.Answer.{done}
+use Rattle.table.specs.State.{orderOf, stageOf, isNothing, isNetwork}
+use Rattle.table.proofs.Accepted.{unless-done}
 use Rattle.network.specs.Lent.{lentNode, lentDiagram, rootsSize}
 use Rattle.network.specs.Evaluate.{goodCells}
-use Rattle.network.proofs.Answered.{followable, rooted}
+use Rattle.network.proofs.Answered.{network-held, followable, rooted}
 use Rattle.canonical.specs.Canonical.{canonicalAnswer}
 
 lent-count : (count m : ℕ) (cells roots : List ℕ) → length (lentDiagram count m cells roots .nodes) ≡ count
 unfolding lentDiagram
 lent-count count m cells roots = length-map-upTo (lentNode cells) count
+
+-- a diagram with more nodes than a network ever has is none's
+pub many-none : (n m : ℕ) (order : List ℕ) (D : Diagram) → n ≤ mostVariables → m ≤ mostOutputs → T (isOrder n order)
+    → T (wellFormed true n m D) → mostNodes < length (D .nodes) → canonical true n m order D ≡ false
+many-none n m order D hn hm o w h =
+    split (canonical true n m order D) (λ e. absurd (omega (arith, canonical-count n m order D o w hn hm (to-T e)))) (λ e. e)
 
 module _ (s : State) (roots cells : List ℕ) where
   pub answer-short : length roots < mostOutputs → ShortBuffer ≡ canonicalAnswer s roots cells
@@ -59,14 +67,9 @@ module _ (s : State) (roots cells : List ℕ) where
         pub answer-many : mostNodes < s .count → NotCanonical ≡ canonicalAnswer s roots cells
         answer-many h =
             not-canonical
-            (split (canonical true (s .n) (s .m) (orderOf s) (lentDiagram (s .count) (s .m) cells roots))
-            (λ e. absurd (omega (
-              arith,
-              lent-count (s .count) (s .m) cells roots,
-              canonical-count (s .n) (s .m) (orderOf s) (lentDiagram (s .count) (s .m) cells roots) ordered
-                  formed (followable s roots cells long held good .few) (rooted s roots cells long held good .few) (to-T e),
-            )))
-            (λ e. e))
+            (many-none (s .n) (s .m) (orderOf s) (lentDiagram (s .count) (s .m) cells roots)
+            (followable s roots cells long held good .few) (rooted s roots cells long held good .few) ordered formed
+            (omega (arith, lent-count (s .count) (s .m) cells roots)))
 
         iff : canonical true (s .n) (s .m) (orderOf s) (lentDiagram (s .count) (s .m) cells roots)
             ≡ structured true (s .n) (lentDiagram (s .count) (s .m) cells roots)
@@ -80,3 +83,38 @@ module _ (s : State) (roots cells : List ℕ) where
             → Done 0 ≡ canonicalAnswer s roots cells
         unfolding canonicalAnswer rootsSize
         answer-done e = rw (le-leb mostOutputs (length roots) long, held, good, iff ∙ e)
+
+-- what a success says
+pub record Success (s : State) (roots cells : List ℕ) : Type 0 where
+  pub long : rootsSize ≤ length roots
+  pub held : T (not (isNothing (stageOf s)))
+  pub enough : s .count ≤ length cells / 3
+  pub formed : T (wellFormed true (s .n) (s .m) (lentDiagram (s .count) (s .m) cells roots))
+  pub network : T (canonical true (s .n) (s .m) (orderOf s) (lentDiagram (s .count) (s .m) cells roots))
+  pub few : s .count ≤ mostNodes
+
+pub success : (s : State) (roots cells : List ℕ) → T (done (canonicalAnswer s roots cells)) → Success s roots cells
+unfolding canonicalAnswer rootsSize
+success s roots cells t =
+    let D : Diagram = lentDiagram (s .count) (s .m) cells roots in
+    let r = unless-done (leb mostOutputs (length roots)) ShortBuffer _ refl t in
+    let n = unless-done (isNetwork (stageOf s)) NoNetwork _ refl (r .1) in
+    let g = unless-done (goodCells s roots cells) BadCells _ refl (n .1) in
+    let c = unless-done (canonical true (s .n) (s .m) (orderOf s) D) NotCanonical (Done 0) refl (g .1) in
+    let long : mostOutputs ≤ length roots = leb→le mostOutputs (length roots) (r .0) in
+    let held : isNetwork (stageOf s) ≡ true = of-T (n .0) in
+    let good : goodCells s roots cells ≡ true = of-T (g .0) in
+    let f = followable s roots cells long held good in
+    let w = formed s roots cells long held good in
+    record {
+      long = long;
+      held = network-held (stageOf s) (n .0);
+      enough = f .held;
+      formed = w;
+      network = c .0;
+      few = omega (
+        arith,
+        lent-count (s .count) (s .m) cells roots,
+        canonical-count (s .n) (s .m) (orderOf s) D (f .ordered) w (f .few) (rooted s roots cells long held good .few) (c .0),
+      );
+    }

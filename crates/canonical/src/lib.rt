@@ -4,4 +4,4 @@ mod reduced;
 mod walk;
 
 // How many slots the nodes are marked in; specs/inner/Reduced.antt has the definition, `slots`.
-const SLOTS: usize = 16384;
+const SLOTS: usize = 65536;

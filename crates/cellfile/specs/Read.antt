@@ -2,11 +2,10 @@
 -- Assumes nothing.
 use mathlib.Core.Path.{_≡_}
 use mathlib.Core.Bool.{Bool, true, cond, _||_}
-use mathlib.Core.List.{List, map}
+use mathlib.Core.List.{List}
 use Prim.Native.Nat.{ℕ, _*_}
 use lib.Dec.{eqb, leb}
 use lib.ListN.{length}
-use Rattle.diagram.specs.Fill.{Row}
 use Rattle.diagram.specs.Diagram.{Diagram, wellFormed}
 use Rattle.diagram.specs.Table.{Table, Solves, Fits}
 use Rattle.diagram.specs.Demands.{Kept, Least}

@@ -8,13 +8,14 @@ mod numbers;
 pub mod read;
 mod sizes;
 mod verify;
+mod work;
 pub mod write;
 
 use block::BLOCK;
 use diagram::NODES;
 
 // The cells that a block carries, and their numbers; specs/File.antt has the definitions, `blockCells` and `blockNumbers`.
-pub(crate) const BLOCK_CELLS: usize = 84;
+pub const BLOCK_CELLS: usize = 84;
 
 pub(crate) const BLOCK_NUMBERS: usize = 3 * BLOCK_CELLS;
 

@@ -5,8 +5,8 @@ use crate::file::file_answer;
 use crate::numbers::file_count;
 use crate::verify::checked_answer;
 use crate::verify::file_state;
+use crate::work::clear_after;
 use fill::WORK;
-use fill::clear;
 use network::ROOTS;
 use network::tabulate::tabulate;
 use table::Answer;
@@ -14,18 +14,16 @@ use table::Outcome;
 use table::PLANE;
 use table::State;
 use table::numbers::is_done;
-use table::numbers::number_of;
 ghost use mathlib.Core.Path.{_≡_};
-ghost use mathlib.Core.Bool.{true, cond};
+ghost use mathlib.Core.Bool.{true};
 ghost use Prim.Native.Nat.{_*_};
 ghost use Rattle.table.specs.Answer.{done};
 ghost use Rattle.table.specs.Stream.{planeByte};
 ghost use Rattle.table.specs.Calls.{planeSize, over};
-ghost use Rattle.fill.specs.Work.{clearedWork};
 ghost use Rattle.network.specs.Lent.{rootsSize, lentDiagram};
 ghost use Rattle.network.specs.Build.{capacity, longEnough};
 ghost use Rattle.cellfile.specs.File.{fileCount, fileRoot, cellNumber};
-ghost use Rattle.cellfile.specs.Read.{readAnswer, readState, readTable, clearsChecked, readOutcome, readValues, readCare, readWork};
+ghost use Rattle.cellfile.specs.Read.{readAnswer, readState, readTable, readOutcome, readValues, readCare, readWork};
 ghost use Rattle.cellfile.specs.Read.{readRoots, readCells, Given};
 ghost use Rattle.cellfile.specs.inner.Cells.{Readable};
 
@@ -70,29 +68,6 @@ fn answer_of(
         return Answer::TooSmall(count);
     }
     checked_answer(file)
-}
-
-// Whether an answer leaves the work buffer zero: a success, 23 and 32.
-fn clears_work(answer: Answer) -> bool
-    ensures { λ r. ⌜ r ≡ clearsChecked answer ⌝ }
-{
-    let number = number_of(answer);
-    if number == 0 {
-        return true;
-    }
-    if number == 23 {
-        return true;
-    }
-    number == 32
-}
-
-// Makes the work buffer zero after an answer that leaves it so.
-fn clear_after(answer: Answer, work: &mut [u8])
-    ensures { λ _. ⌜ now (work .exit) ≡ cond (clearsChecked answer) (clearedWork (now (work .entry))) (now (work .entry)) ⌝ }
-{
-    if clears_work(answer) {
-        clear(work);
-    }
 }
 
 // Writes what the file says: its roots and cells, and the table that they compute.

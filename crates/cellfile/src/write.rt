@@ -1,14 +1,13 @@
 // Writing a network file of held cells (document 02, 2.2).
 use crate::FILE;
 use crate::blocks::write_blocks;
+use crate::work::clear_after;
 use canonical::canonical::canonical_answer;
 use fill::WORK;
-use fill::clear;
 use network::ROOTS;
 use table::Answer;
 use table::State;
 use table::numbers::is_done;
-use table::numbers::number_of;
 ghost use mathlib.Core.Path.{_≡_};
 ghost use Rattle.cellfile.specs.Write.{writeAnswer, writeWork, writtenFile};
 
@@ -38,14 +37,9 @@ pub fn write_cells(
         return Answer::ShortBuffer;
     }
     let answer = canonical_answer(state, roots, cells);
-    if number_of(answer) == 32 {
-        clear(work);
-        return answer;
+    clear_after(answer, work);
+    if is_done(answer) {
+        write_blocks(state, roots, cells, file);
     }
-    if !is_done(answer) {
-        return answer;
-    }
-    write_blocks(state, roots, cells, file);
-    clear(work);
     answer
 }

@@ -169,6 +169,7 @@ pub(crate) fn first(
         Command::Cells => show::cells(state, roots, cells),
         Command::Rows => show::rows(state, roots, cells),
         Command::Cared => show::cared(state, care),
+        Command::Write => show::written(state, roots, cells, work),
         _ => return waits(desk, command),
     }
     desk

@@ -17,6 +17,7 @@ pub enum Command {
     Cells,
     Rows,
     Cared,
+    Write,
     Unknown,
 }
 
@@ -42,6 +43,9 @@ pub(crate) fn of(word: &[u8]) -> Command {
     }
     if same(word, b"cared") {
         return Command::Cared;
+    }
+    if same(word, b"write") {
+        return Command::Write;
     }
     with_number(word)
 }

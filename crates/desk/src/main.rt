@@ -1,4 +1,6 @@
-// A command over every call: `desk WORD.. < TABLE`. It loads the table on standard input, then does what the words say, in turn.
+// A command over every call: `desk WORD.. < FILE`. It loads the table or reads the network file on standard input, then does what the
+// words say, in turn.
+mod begin;
 mod calls;
 mod command;
 mod list;
@@ -10,13 +12,10 @@ use fill::WORK;
 use libc::STDIN_FILENO;
 use network::ROOTS;
 use printed::input::LONGEST;
-use printed::input::load_input;
 use printed::output::CELLS;
-use show::answer;
 use show::number;
 use table::Answer;
 use table::PLANE;
-use table::load::unloaded;
 
 // The longest word that is read whole.
 const WORD: usize = 4096;
@@ -85,11 +84,17 @@ fn main() {
     let mut roots = [0u16; ROOTS];
     let mut cells = [0u16; CELLS];
     let length = io::read_full(STDIN_FILENO, &mut file);
-    let outcome = load_input(unloaded(), &file[..length], &mut values, &mut care);
-    let loaded = outcome.answer;
-    answer(b"load", loaded);
+    let outcome = begin::begin(
+        &file[..length],
+        &mut values,
+        &mut care,
+        &mut work,
+        &mut roots,
+        &mut cells,
+    );
+    let answer = outcome.answer;
     let state = outcome.state;
-    match loaded {
+    match answer {
         Answer::Done(_) => run(
             calls::opened(state),
             &values,

@@ -1,10 +1,15 @@
 // What is printed: one line, or the lines of a network.
 use crate::list::ROWS;
+use block::CHECK_AT;
+use block::block::block_byte;
 use block::numbers::lent_number;
+use cellfile::FILE;
+use cellfile::write::write_cells;
 use diagram::VARIABLES;
 use libc::STDOUT_FILENO;
 use network::evaluate::evaluate;
 use network::rows::evaluate_rows;
+use printed::netfile::file_blocks;
 use printed::output::TEXT;
 use table::Answer;
 use table::Stage;
@@ -13,6 +18,7 @@ use text::held::held_lines;
 use text::line::answer_line;
 use text::line::number_line;
 use text::line::order_line;
+use text::line::pair_line;
 use text::line::row_line;
 
 // The bytes of a line.
@@ -110,5 +116,33 @@ pub(crate) fn rows(state: State, roots: &[u16], cells: &[u16]) {
     while r < end {
         row(r, evaluate(state, r, roots, cells));
         r += 1;
+    }
+}
+
+// The line of block k of a file, with its stored check.
+fn block(file: &[u8], k: usize) {
+    let check = block_byte(file, k, CHECK_AT) + 256 * block_byte(file, k, CHECK_AT + 1);
+    let mut line = [0u8; LINE];
+    let length = pair_line(&mut line, b"block", k, check);
+    write(&line, length);
+}
+
+// The lines of the first blocks of a file.
+fn blocks(file: &[u8], count: usize) {
+    let mut k: usize = 0;
+    while k < count {
+        block(file, k);
+        k += 1;
+    }
+}
+
+// What writing the held cells answers, and the line of each block where that is a success.
+pub(crate) fn written(state: State, roots: &[u16], cells: &[u16], work: &mut [u8]) {
+    let mut file = [0u8; FILE];
+    let given = write_cells(state, roots, cells, work, &mut file);
+    answer(b"write", given);
+    match given {
+        Answer::Done(_) => blocks(&file, file_blocks(state.count)),
+        _ => {}
     }
 }

@@ -1,4 +1,4 @@
--- After a build, evaluating any row gives the filled table's bits.
+-- What a build leaves is a well-formed diagram, and evaluating any row gives the filled table's bits.
 -- Assumes nothing.
 use mathlib.Core.Path.{_≡_, ap, ap₂, _∙_, subst}
 use mathlib.Core.Bool.{true, not}
@@ -30,7 +30,7 @@ use Rattle.network.proofs.RootTurns.{roots-size}
 use Rattle.network.proofs.LentNetwork.{cells-enough, lent-network}
 
 -- the state that a build leaves holds a network
-network-stage : (s : State) (count : ℕ) → T (not (isNothing (stageOf s))) → isNetwork (stageOf (networkState s count)) ≡ true
+pub network-stage : (s : State) (count : ℕ) → T (not (isNothing (stageOf s))) → isNetwork (stageOf (networkState s count)) ≡ true
 unfolding stageOf
 network-stage s count held =
     split (goodHeading (s .n) (s .m) (orderOf s)) (λ e. rw e)
@@ -43,12 +43,7 @@ builtCells s values care cells = numbersOf (heldNetwork s values care .nodes) ++
 abbrev pub builtRoots : State → List ℕ → List ℕ → List ℕ → List ℕ
 builtRoots s values care roots = over (λ j. getD (heldNetwork s values care .roots) j 0) rootsSize roots
 
-module _ (s : State) (values care roots cells : List ℕ) (held : T (not (isNothing (stageOf s))))
-    (long : mostOutputs ≤ length roots) (row : ℕ) (known : row < 2 ^ s .n) where
-  roots-long : mostOutputs ≤ length (builtRoots s values care roots)
-  roots-long =
-      omega (arith, length-over (λ j. getD (heldNetwork s values care .roots) j 0) rootsSize roots (omega (arith, roots-size)))
-
+module _ (s : State) (values care roots cells : List ℕ) (held : T (not (isNothing (stageOf s)))) where
   formed : wellFormed true (s .n) (s .m) (lentDiagram (wanted s values care) (s .m) (builtCells s values care cells)
       (builtRoots s values care roots)) ≡ true
   unfolding heldNetwork
@@ -56,10 +51,19 @@ module _ (s : State) (values care roots cells : List ℕ) (held : T (not (isNoth
       ap (wellFormed true (s .n) (s .m)) (lent-network s values care held cells roots)
       ∙ of-T (right true (heldTable s values care) (orderOf s) .formed)
 
-  good : goodCells (networkState s (wanted s values care)) (builtRoots s values care roots) (builtCells s values care cells) ≡ true
+  -- the cells and the roots pass the test of number 24
+  pub good-built : goodCells (networkState s (wanted s values care)) (builtRoots s values care roots) (builtCells s values care cells)
+      ≡ true
   unfolding goodCells
-  good = rw (le-leb (wanted s values care) (length (builtCells s values care cells) / 3) (cells-enough s values care cells), formed)
+  good-built =
+      rw (le-leb (wanted s values care) (length (builtCells s values care cells) / 3) (cells-enough s values care cells), formed)
 
+  -- the roots are as many as were lent
+  pub roots-built : rootsSize ≤ length roots → rootsSize ≤ length (builtRoots s values care roots)
+  roots-built h = omega (arith, length-over (λ j. getD (heldNetwork s values care .roots) j 0) rootsSize roots h)
+
+module _ (s : State) (values care roots cells : List ℕ) (held : T (not (isNothing (stageOf s))))
+    (long : mostOutputs ≤ length roots) (row : ℕ) (known : row < 2 ^ s .n) where
   root-there : (j : ℕ) → j < s .m → getD (builtRoots s values care roots) j 0 ≡ getD (heldNetwork s values care .roots) j 0
   root-there j h =
       getD-over (λ k. getD (heldNetwork s values care .roots) k 0) rootsSize roots j 0 (omega (arith, few-outputs s held, roots-size))
@@ -84,9 +88,9 @@ module _ (s : State) (values care roots cells : List ℕ) (held : T (not (isNoth
   unfolding evaluateAnswer
   evaluate-built =
       rw (
-        le-leb rootsSize (length (builtRoots s values care roots)) (omega (arith, roots-long, roots-size)),
+        le-leb rootsSize (length (builtRoots s values care roots)) (roots-built s values care roots cells held (omega (arith, roots-size))),
         network-stage s (wanted s values care) held,
         lt-ltb row (2 ^ s .n) known,
-        good,
+        good-built s values care roots cells held,
       )
       (ap Done built-row)

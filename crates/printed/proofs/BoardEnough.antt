@@ -1,6 +1,6 @@
--- A board of 2,159 cells is never too small: an input that is read is built, and its network printed.
+-- A board of 2,159 cells is never too small: an input that is read is built.
 -- Assumes nothing.
-use mathlib.Core.Path.{_≡_, ap}
+use mathlib.Core.Path.{_≡_}
 use mathlib.Core.Bool.{true, false}
 use mathlib.Core.List.{List}
 use Prim.Native.Nat.{ℕ, _≤_}
@@ -11,17 +11,14 @@ use Rattle.diagram.specs.Bound.{mostNodes}
 use Rattle.diagram.proofs.Bools.{to-not}
 use Rattle.table.specs.declared.Answer.the-variants.{Done}
 use Rattle.table.specs.declared.State.{State}
-use Rattle.table.specs.Answer.{value, done}
 use Rattle.table.specs.State.{stageOf, isNothing}
-use Rattle.table.specs.Calls.{planeSize, caredAnswer}
+use Rattle.table.specs.Calls.{planeSize}
 use Rattle.fill.specs.Work.{workSize}
 use Rattle.network.specs.Lent.{rootsSize}
-use Rattle.network.specs.Build.{wanted, capacity, buildAnswer, buildOutcome, buildRoots, buildCells}
+use Rattle.network.specs.Build.{wanted, capacity, buildAnswer}
 use Rattle.network.proofs.HeldRead.{few-wanted}
-use Rattle.text.specs.Text.{networkText}
 use Rattle.printed.specs.Input.{inputValues, inputCare}
-use Rattle.printed.specs.Output.{refusedLine}
-use Rattle.printed.specs.inner.Printed.{builtText, read, isRead, printedText}
+use Rattle.printed.specs.inner.BuiltInput.{read, isRead}
 use Rattle.printed.proofs.LoadedInput.{read-held, values-long, care-long, values-length, care-length}
 
 -- a table that is held is built, where the buffers have section 2's sizes and the board has 2,159 cells
@@ -40,12 +37,6 @@ module _ (s : State) (values care work roots cells : List ℕ) where
         le-leb (wanted s values care) (capacity cells) (omega (arith, few)),
       )
 
--- an input that is not read prints its refusal
-pub printed-refused : (file values care work roots cells : List ℕ) → isRead file values care ≡ false
-    → printedText file values care work roots cells ≡ refusedLine (read file values care .answer)
-unfolding printedText
-printed-refused file values care work roots cells e = rw e
-
 -- an input that is read, and buffers as section 2 has them; the lengths of values and care are tested by the load
 module _ (file values care work roots cells : List ℕ) (w : workSize ≤ length work) (r : rootsSize ≤ length roots)
     (b : mostNodes ≤ capacity cells) (e : isRead file values care ≡ true) where
@@ -59,20 +50,9 @@ module _ (file values care work roots cells : List ℕ) (w : workSize ≤ length
   abbrev c : List ℕ
   c = inputCare file values care
 
+  -- the build is never refused
   pub answer-done : buildAnswer s v c work roots cells ≡ Done (wanted s v c)
   answer-done =
       build-done s v c work roots cells (read-held file values care e)
       (omega (arith, values-long file values care e, values-length file values care e))
       (omega (arith, care-long file values care e, care-length file values care e)) w r b
-
-  -- the build is never refused
-  pub never-too-small : done (buildOutcome s v c work roots cells .answer) ≡ true
-  unfolding buildOutcome
-  never-too-small = ap done answer-done
-
-  -- so the network is printed
-  pub printed-whole : printedText file values care work roots cells
-      ≡ networkText (buildOutcome s v c work roots cells .state) (value (caredAnswer (buildOutcome s v c work roots cells .state) c))
-      (buildRoots s v c work roots cells) (buildCells s v c work roots cells)
-  unfolding printedText builtText
-  printed-whole = rw (e, never-too-small)

@@ -31,14 +31,20 @@ use Rattle.network.proofs.HeldRead.{few-wanted}
 use Rattle.network.proofs.Outcomes.{done-outcome, done-roots, done-cells}
 use Rattle.text.specs.Text.{networkText}
 use Rattle.printed.specs.Input.{inputValues, inputCare}
-use Rattle.printed.specs.Output.{textSize, refused-word, refusedLine}
-use Rattle.printed.specs.inner.Printed.{builtText, read, isRead, printedText}
+use Rattle.printed.specs.Built.{refused-word, refusedLine}
+use Rattle.printed.specs.Output.{textSize}
+use Rattle.printed.specs.inner.BuiltInput.{read, isRead, builtOutcome, builtRoots, builtCells}
+use Rattle.printed.specs.inner.Printed.{outcomeText, printedText}
 use Rattle.printed.proofs.SmallNumbers.{cell-small, root-small}
 use Rattle.printed.proofs.TextLength.{spaced-two, line-few, network-fits}
 
-refused-fits : (a : Answer) → length (refusedLine a) ≤ textSize
+-- a refusal's line is short
+pub refused-few : (a : Answer) → length (refusedLine a) ≤ 11
 unfolding refusedLine
-refused-fits a = omega (arith, line-few refused-word (number a) 3 (spaced-two (number a) (number-few a)))
+refused-few a = line-few refused-word (number a) 3 (spaced-two (number a) (number-few a))
+
+refused-fits : (a : Answer) → length (refusedLine a) ≤ textSize
+refused-fits a = omega (arith, refused-few a)
 
 -- the cared bits are at most the stream's
 
@@ -88,8 +94,9 @@ module _ (s : State) (values care work roots cells : List ℕ) where
         (few-inputs s held) (few-outputs s held) (few-wanted s values care held) (cared-few t care (few-bits s held)) (entry-few s held)
         (λ j h. omega (arith, root-small s values care held roots j h)) (λ i h. omega (arith, cell-small s values care held cells i h)))
 
-  built-fits : length (builtText s values care work roots cells) ≤ textSize
-  unfolding builtText
+  built-fits : length (outcomeText (buildOutcome s values care work roots cells) care (buildRoots s values care work roots cells)
+      (buildCells s values care work roots cells)) ≤ textSize
+  unfolding outcomeText
   built-fits =
       split (done (buildOutcome s values care work roots cells .answer))
       (λ e. let u = success e in rw e (network-length (u .0) (u .1)))
@@ -97,8 +104,8 @@ module _ (s : State) (values care work roots cells : List ℕ) where
 
 -- whatever is read, and whatever is lent
 pub printed-fits : (file values care work roots cells : List ℕ) → length (printedText file values care work roots cells) ≤ textSize
-unfolding printedText
+unfolding printedText outcomeText builtOutcome builtRoots builtCells
 printed-fits file values care work roots cells =
     split (isRead file values care)
     (λ e. rw e (built-fits (read file values care .state) (inputValues file values care) (inputCare file values care) work roots cells))
-    (λ e. rw e (refused-fits (read file values care .answer)))
+    (λ e. rw (e, e) (refused-fits (read file values care .answer)))

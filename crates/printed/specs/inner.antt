@@ -1,1 +1,3 @@
+pub mod BuiltInput
 pub mod Printed
+pub mod Filed

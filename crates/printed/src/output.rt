@@ -1,47 +1,30 @@
 // The whole output of the printing program: the network of the table in its input, or a refusal (document 01, section 8).
-use crate::input::load_input;
+use crate::built::build_input;
+use crate::refusal::refusal;
 use diagram::NODES;
 use fill::WORK;
 use network::ROOTS;
-use network::build::build;
-use table::Answer;
+use table::Outcome;
 use table::PLANE;
 use table::State;
 use table::cared::cared;
-use table::load::unloaded;
-use table::numbers::number_of;
+use table::numbers::is_done;
 use table::numbers::value_of;
 use text::held::network_text;
-use text::line::number_line;
 ghost use mathlib.Core.Path.{_≡_};
 ghost use Rattle.table.specs.Answer.{value};
 ghost use Rattle.table.specs.Calls.{caredAnswer};
-ghost use Rattle.network.specs.Build.{buildRoots, buildCells, buildWork};
 ghost use Rattle.text.specs.Written.{Written};
 ghost use Rattle.printed.specs.Input.{inputValues, inputCare};
-ghost use Rattle.printed.specs.Output.{
-  refusedLine,
-  outputOf,
-  outputValues,
-  outputCare,
-  outputWork,
-  outputRoots,
-  outputCells,
-  Whole,
-};
-ghost use Rattle.printed.specs.inner.Printed.{builtText, printedText, printedWork, printedRoots, printedCells};
+ghost use Rattle.printed.specs.Built.{outputValues, outputCare, outputWork, outputRoots, outputCells, Whole};
+ghost use Rattle.printed.specs.Output.{outputOf};
+ghost use Rattle.printed.specs.inner.BuiltInput.{builtWork, builtRoots, builtCells};
+ghost use Rattle.printed.specs.inner.Printed.{outcomeText, printedText};
 
 // The numbers of the cells that any table needs, and the bytes that any output fits in; specs/Output.antt has the latter, `textSize`.
 pub const CELLS: usize = 3 * NODES;
 
 pub const TEXT: usize = 65536;
-
-// The line of a refusal.
-fn refusal(out: &mut [u8], answer: Answer) -> usize
-    ensures { λ r. ⌜ Written (now (out .entry)) (now (out .exit)) 0 r (refusedLine answer) ⌝ }
-{
-    number_line(out, b"refused", number_of(answer))
-}
 
 // The cared bits of a table that is held.
 fn cared_bits(state: State, care: &[u8]) -> usize
@@ -50,36 +33,24 @@ fn cared_bits(state: State, care: &[u8]) -> usize
     value_of(cared(state, care))
 }
 
-// Builds the table that is held, and prints its network.
-fn built(
-    state: State,
-    values: &[u8],
+// Prints the network that a build left, or its refusal.
+fn print_outcome(
+    outcome: Outcome,
     care: &[u8],
-    work: &mut [u8],
-    roots: &mut [u16],
-    cells: &mut [u16],
+    roots: &[u16],
+    cells: &[u16],
     out: &mut [u8],
 ) -> usize
-    ensures text { λ r.
+    ensures { λ r.
         ⌜ Written (now (out .entry)) (now (out .exit)) 0 r
-        (builtText state (now (values .entry)) (now (care .entry)) (now (work .entry)) (now (roots .entry)) (now (cells .entry))) ⌝ }
-    ensures work { λ _.
-        ⌜ now (work .exit)
-        ≡ buildWork state (now (values .entry)) (now (care .entry)) (now (work .entry)) (now (roots .entry)) (now (cells .entry)) ⌝ }
-    ensures roots { λ _.
-        ⌜ now (roots .exit)
-        ≡ buildRoots state (now (values .entry)) (now (care .entry)) (now (work .entry)) (now (roots .entry)) (now (cells .entry)) ⌝ }
-    ensures cells { λ _.
-        ⌜ now (cells .exit)
-        ≡ buildCells state (now (values .entry)) (now (care .entry)) (now (work .entry)) (now (roots .entry)) (now (cells .entry)) ⌝ }
+        (outcomeText outcome (now (care .entry)) (now (roots .entry)) (now (cells .entry))) ⌝ }
 {
-    let outcome = build(state, values, care, work, roots, cells);
     let answer = outcome.answer;
-    let after = outcome.state;
-    if number_of(answer) != 0 {
+    let state = outcome.state;
+    if !is_done(answer) {
         return refusal(out, answer);
     }
-    network_text(out, after, cared_bits(after, care), roots, cells)
+    network_text(out, state, cared_bits(state, care), roots, cells)
 }
 
 // Reads the table in a program's input, builds its network in the file's order, and prints it as far as there is room; or the refusal.
@@ -100,24 +71,19 @@ fn print_input(
     ensures care { λ _. ⌜ now (care .exit) ≡ inputCare (now (file .entry)) (now (values .entry)) (now (care .entry)) ⌝ }
     ensures work { λ _.
         ⌜ now (work .exit)
-        ≡ printedWork (now (file .entry)) (now (values .entry)) (now (care .entry)) (now (work .entry)) (now (roots .entry))
+        ≡ builtWork (now (file .entry)) (now (values .entry)) (now (care .entry)) (now (work .entry)) (now (roots .entry))
         (now (cells .entry)) ⌝ }
     ensures roots { λ _.
         ⌜ now (roots .exit)
-        ≡ printedRoots (now (file .entry)) (now (values .entry)) (now (care .entry)) (now (work .entry)) (now (roots .entry))
+        ≡ builtRoots (now (file .entry)) (now (values .entry)) (now (care .entry)) (now (work .entry)) (now (roots .entry))
         (now (cells .entry)) ⌝ }
     ensures cells { λ _.
         ⌜ now (cells .exit)
-        ≡ printedCells (now (file .entry)) (now (values .entry)) (now (care .entry)) (now (work .entry)) (now (roots .entry))
+        ≡ builtCells (now (file .entry)) (now (values .entry)) (now (care .entry)) (now (work .entry)) (now (roots .entry))
         (now (cells .entry)) ⌝ }
 {
-    let outcome = load_input(unloaded(), file, values, care);
-    let answer = outcome.answer;
-    let state = outcome.state;
-    if number_of(answer) != 0 {
-        return refusal(out, answer);
-    }
-    built(state, values, care, work, roots, cells, out)
+    let outcome = build_input(file, values, care, work, roots, cells);
+    print_outcome(outcome, care, roots, cells, out)
 }
 
 // Prints the network of the table in a program's input, built in the file's order, or the refusal's number. Whatever the input, the text

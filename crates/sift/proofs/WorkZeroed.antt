@@ -2,26 +2,19 @@
 -- Assumes nothing.
 use mathlib.Core.Path.{_≡_, refl, sym, ap, _∙_, subst}
 use mathlib.Core.Bool.{_&&_}
-use mathlib.Core.List.{List, _++_}
+use mathlib.Core.List.{List}
 use Prim.Native.Nat.{ℕ, _≤_, _<_}
 use native.Mathlib.Nat.{not-suc-le-zero}
 use native.Mathlib.Omega.{arith}
 use lib.Dec.{T, leb, leb→le, le→leb}
 use lib.ListN.{length, drop, replicate, length-append, length-replicate}
-use lib.Seq.{drop-at}
 use Rattle.diagram.proofs.Bools.{and-T, and-l, and-r}
 use Rattle.table.specs.Calls.{planeSize}
 use Rattle.fill.specs.Work.{workSize, zeroWork, clearedWork}
 use Rattle.fill.specs.Calls.{enough}
 use Rattle.fill.proofs.Buffers.Sizes.{work-size}
-use Rattle.fill.proofs.Buffers.HeldParts.{length-zero}
+use Rattle.fill.proofs.Buffers.HeldParts.{zero-zero, length-zero}
 use Rattle.fill.proofs.Calls.Answers.{cleared-zero as long-cleared}
-
-zero-zero : (work : List ℕ) → zeroWork (zeroWork work) ≡ zeroWork work
-unfolding zeroWork
-zero-zero work =
-    ap (λ (l : List ℕ). replicate workSize 0 ++ l)
-    (drop-at (replicate workSize 0) (drop workSize work) workSize (length-replicate workSize 0))
 
 zero-long : (work : List ℕ) → workSize ≤ length (zeroWork work)
 unfolding zeroWork

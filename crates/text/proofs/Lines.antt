@@ -23,6 +23,7 @@ use Rattle.text.specs.Text.{
   spaced,
   inTurn,
   line,
+  pairLine,
   orderLine,
   nodeText,
   cellLine,
@@ -48,6 +49,11 @@ pub written-line : {l m n o : List ℕ} {i j k q : ℕ} (w : List ℕ) (x : ℕ)
     → Written n o k q newline → Written l o i q (line w x)
 unfolding line
 written-line w x u v e = written-then u (written-then v e)
+
+pub written-pair : {l m n o z : List ℕ} {i j k q t : ℕ} (w : List ℕ) (x y : ℕ) → Written l m i j w → Written m n j k (spaced x)
+    → Written n o k q (spaced y) → Written o z q t newline → Written l z i t (pairLine w x y)
+unfolding pairLine
+written-pair w x y u v e f = written-then u (written-then v (written-then e f))
 
 -- two parts, and three
 pub written-answer : {l m n o : List ℕ} {i j k q : ℕ} (a : Answer) (x y : ℕ) → x ≡ number a → y ≡ value a → Written l m i j (spaced x)

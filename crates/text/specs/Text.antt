@@ -64,6 +64,10 @@ inTurn f (suc k) = inTurn f k ++ f k
 unfoldable pub line : List ℕ → ℕ → List ℕ
 line word x = word ++ (spaced x ++ newline)
 
+-- a word, two numbers and the line's end
+unfoldable pub pairLine : List ℕ → ℕ → ℕ → List ℕ
+pairLine word x y = word ++ (spaced x ++ (spaced y ++ newline))
+
 -- 'order' and the variables, the top level first; 'At n = 0 the order line is `order`'
 unfoldable pub orderLine : ℕ → List ℕ → List ℕ
 orderLine n order = order-word ++ (inTurn (λ i. spaced (getD order i 0)) n ++ newline)

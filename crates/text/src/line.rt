@@ -1,4 +1,4 @@
-// The lines that programs print: a word and a number, a call's answer, an order.
+// The lines that programs print: a word and a number or two, a call's answer, an order.
 use crate::put::NEWLINE;
 use crate::put::put_byte;
 use crate::put::put_line;
@@ -13,7 +13,7 @@ ghost use Prim.Native.Nat.{_≤_, min};
 ghost use mathlib.Core.Path.{_≡_};
 ghost use lib.ListN.{length, getD};
 ghost use Rattle.diagram.specs.Bound.{mostVariables};
-ghost use Rattle.text.specs.Text.{spaced, inTurn, line, answered, answerLine, rowLine, stateOrder};
+ghost use Rattle.text.specs.Text.{spaced, inTurn, line, pairLine, answered, answerLine, rowLine, stateOrder};
 ghost use Rattle.text.specs.Written.{Written};
 
 // A word and a number.
@@ -21,6 +21,16 @@ pub fn number_line(out: &mut [u8], word: &[u8], x: usize) -> usize
     ensures { λ r. ⌜ Written (now (out .entry)) (now (out .exit)) 0 r (line (now (word .entry)) x) ⌝ }
 {
     put_line(out, 0, word, x)
+}
+
+// A word and two numbers.
+pub fn pair_line(out: &mut [u8], word: &[u8], x: usize, y: usize) -> usize
+    ensures { λ r. ⌜ Written (now (out .entry)) (now (out .exit)) 0 r (pairLine (now (word .entry)) x y) ⌝ }
+{
+    let first = put_word(out, 0, word);
+    let second = put_number(out, first, x);
+    let end = put_number(out, second, y);
+    put_byte(out, end, NEWLINE)
 }
 
 // The number and the value of an answer, and the line's end.

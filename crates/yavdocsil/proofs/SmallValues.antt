@@ -6,37 +6,46 @@ use mathlib.Core.List.{List}
 use Prim.Native.Nat.{ℕ, zero, suc, _+_, _*_, _-_, _≤_, _<_, _^_}
 use native.Mathlib.Omega.{arith}
 use lib.Dec.{eqb, ltb, leb}
-use lib.ListN.{length}
+use lib.ListN.{length, getD}
 use lib.Pow.{pow-mono}
 use Rattle.diagram.specs.Lists.{all}
 use Rattle.diagram.specs.Bound.{mostVariables, mostOutputs}
+use Rattle.diagram.specs.Canonical.{canonical}
+use Rattle.diagram.specs.Diagram.{wellFormed}
 use Rattle.diagram.specs.Order.{isOrder}
 use Rattle.diagram.specs.Table.{cost}
 use Rattle.diagram.proofs.Bools.{split, to-T}
 use Rattle.diagram.proofs.Pass.{pass-within}
 use Rattle.block.specs.Bits.{packed, streamBit}
 use Rattle.block.proofs.Sums.{sum-digits}
-use Rattle.block.specs.Block.{blockSize, wholeBlocks, goodCheck, unusedZero, unusedBitsZero}
+use Rattle.block.specs.Block.{blockSize, contentAt, wholeBlocks, byte, goodCheck, goodNumber}
+use Rattle.block.specs.Block.{unusedBetween, unusedZero, unusedBitsZero}
 use Rattle.table.specs.declared.Answer.{Answer}
 use Rattle.table.specs.declared.Answer.the-variants.{Done, BadLength, BadCheck, BadKind, BadInputs, BadOutputs, BadOrder}
 use Rattle.table.specs.declared.Answer.the-variants.{BadContent, NoRow, NoSuch, ShortBuffer, NoTable, NoNetwork, TooSmall}
-use Rattle.table.specs.declared.Answer.the-variants.{BadCells, ShortAnswers}
+use Rattle.table.specs.declared.Answer.the-variants.{BadCells, ShortAnswers, NotCanonical}
 use Rattle.table.specs.declared.State.{State}
 use Rattle.table.specs.Answer.{value, done, unless, unlessRefused, firstRefusal}
 use Rattle.table.specs.State.{orderOf, stageOf, isNothing, isNetwork}
 use Rattle.table.specs.Stream.{caredBits}
 use Rattle.table.specs.File.{fileInputs, fileOutputs, fileOrder, goodKind, streamBits, streamBlocks, firstBit}
-use Rattle.table.specs.File.{shapeAnswer, fieldsAnswer, headingAnswer, tailAnswer, blockAnswer, blocksAnswer, streamsAnswer, fileAnswer}
+use Rattle.table.specs.File.{shapeAnswer, fieldsAnswer, headingAnswer, tailAnswer, blockAnswer, streamsAnswer, fileAnswer}
 use Rattle.table.specs.Calls.{planeSize, loadAnswer, loadOutcome, swapAnswer, swapOutcome, caredAnswer}
 use Rattle.table.proofs.Held.{few-bits, few-outputs}
+use Rattle.fill.specs.Work.{workSize}
 use Rattle.fill.specs.Calls.{heldTable, enough, countAnswer}
-use Rattle.network.specs.Lent.{rootsSize}
+use Rattle.network.specs.Lent.{lentDiagram, rootsSize}
 use Rattle.network.specs.Build.{wanted, capacity, longEnough, buildAnswer, buildOutcome}
 use Rattle.network.specs.Evaluate.{goodCells, rowOutputs, evaluateAnswer}
 use Rattle.network.specs.Rows.{rowsAnswer}
 use Rattle.network.proofs.HeldRead.{few-nodes, few-wanted}
 use Rattle.network.proofs.Answered.{network-held}
 use Rattle.network.proofs.Outputs.{outputs-below}
+use Rattle.canonical.specs.Canonical.{canonicalAnswer}
+use Rattle.cellfile.specs.File.{countAt, rootsAt, fileCount, fileDiagram, cellBlocks, carriedNumbers}
+use Rattle.cellfile.specs.File.{unusedHeading, networkHeading, cellsBlock, cellsAnswer, networkFileAnswer}
+use Rattle.cellfile.specs.Read.{readAnswer, readOutcome}
+use Rattle.cellfile.specs.Write.{fileSize, writeAnswer}
 use Rattle.sift.specs.Calls.{siftedOrder, siftAnswer, siftOutcome, passOf, passAnswer, passOutcome}
 use Rattle.yavdocsil.specs.Words.{valueLimit}
 
@@ -61,7 +70,7 @@ unfolding firstRefusal
 each-small f s k zero = none
 each-small f s k (suc left) = after (f k) (firstRefusal f (suc k) left) (s k) (each-small f s (suc k) left)
 
--- loading: every success of the file's checks is 0
+-- a file's checks: every success is 0
 module _ (file : List ℕ) where
   unused-small : (ok : Bool) → Small (unless ok BadContent (Done 0))
   unused-small ok = checked ok BadContent (Done 0) refl (λ _. none)
@@ -81,11 +90,26 @@ module _ (file : List ℕ) where
       let unused = unusedZero file 0 (6 + fileInputs file) in
       after (shapeAnswer file) (unless unused BadContent (Done 0)) shape-small (unused-small unused)
 
+  -- of a block: 2, 3, then what follows
+  checked-block : (k : ℕ) (kind : Bool) (rest : Answer) → Small rest → Small (unless (goodCheck file k) BadCheck (unless kind BadKind rest))
+  checked-block k kind rest r =
+      checked (goodCheck file k) BadCheck (unless kind BadKind rest) refl (λ _. checked kind BadKind rest refl (λ _. r))
+
+  -- of the further blocks: 1, then each in turn
+  further-blocks : (total : ℕ) (f : ℕ → Answer) → ((k : ℕ) → Small (f k)) → (left : ℕ)
+      → Small (unless (eqb (length file) total) BadLength (firstRefusal f 1 left))
+  further-blocks total f s left =
+      checked (eqb (length file) total) BadLength (firstRefusal f 1 left) refl (λ _. each-small f s 1 left)
+
+  -- of a file: 1, the heading, then what follows
+  whole-file : (heading rest : Answer) → Small heading → Small rest
+      → Small (unless (wholeBlocks file) BadLength (unlessRefused heading rest))
+  whole-file heading rest h r =
+      checked (wholeBlocks file) BadLength (unlessRefused heading rest) refl (λ _. after heading rest h r)
+
   heading-small : Small (headingAnswer file)
   unfolding headingAnswer
-  heading-small =
-      checked (goodCheck file 0) BadCheck (unless (goodKind 0 file 0) BadKind (fieldsAnswer file)) refl
-      (λ _. checked (goodKind 0 file 0) BadKind (fieldsAnswer file) refl (λ _. fields-small))
+  heading-small = checked-block 0 (goodKind 0 file 0) (fieldsAnswer file) fields-small
 
   module _ (bits blocks : ℕ) where
     tail-small : (k : ℕ) → Small (tailAnswer bits blocks file k)
@@ -94,24 +118,59 @@ module _ (file : List ℕ) where
 
     block-small : (k : ℕ) → Small (blockAnswer bits blocks file k)
     unfolding blockAnswer
-    block-small k =
-        let last = tailAnswer bits blocks file k in
-        checked (goodCheck file k) BadCheck (unless (goodKind blocks file k) BadKind last) refl
-        (λ _. checked (goodKind blocks file k) BadKind last refl (λ _. tail-small k))
+    block-small k = checked-block k (goodKind blocks file k) (tailAnswer bits blocks file k) (tail-small k)
 
   streams-small : (n m : ℕ) → Small (streamsAnswer file n m)
   unfolding streamsAnswer
   streams-small n m =
       let blocks = streamBlocks n m in
-      checked (eqb (length file) (blockSize * (1 + 2 * blocks))) BadLength (blocksAnswer (streamBits n m) blocks file 1 (2 * blocks)) refl
-      (λ _. each-small (blockAnswer (streamBits n m) blocks file) (block-small (streamBits n m) blocks) 1 (2 * blocks))
+      further-blocks (blockSize * (1 + 2 * blocks)) (blockAnswer (streamBits n m) blocks file) (block-small (streamBits n m) blocks)
+      (2 * blocks)
 
   file-small : Small (fileAnswer file)
   unfolding fileAnswer
   file-small =
-      let rest = streamsAnswer file (fileInputs file) (fileOutputs file) in
-      checked (wholeBlocks file) BadLength (unlessRefused (headingAnswer file) rest) refl
-      (λ _. after (headingAnswer file) rest heading-small (streams-small (fileInputs file) (fileOutputs file)))
+      whole-file (headingAnswer file) (streamsAnswer file (fileInputs file) (fileOutputs file)) heading-small
+      (streams-small (fileInputs file) (fileOutputs file))
+
+  network-heading-small : Small (networkHeading file)
+  unfolding networkHeading unusedHeading
+  network-heading-small =
+      let unused =
+      unusedBetween file 0 (6 + fileInputs file) countAt && unusedZero file 0 (rootsAt + 2 * fileOutputs file) in
+      checked-block 0 (eqb (byte file 0 0) 4 && goodNumber file 0) (unlessRefused (shapeAnswer file) (unusedHeading file))
+      (after (shapeAnswer file) (unusedHeading file) shape-small (unused-small unused))
+
+  cells-block-small : (count k : ℕ) → Small (cellsBlock count file k)
+  unfolding cellsBlock
+  cells-block-small count k =
+      let unused = unusedZero file k (contentAt + 2 * carriedNumbers count k) in
+      checked-block k (eqb (byte file k 0) 5 && goodNumber file k) (unless unused BadContent (Done 0)) (unused-small unused)
+
+  network-file-small : Small (networkFileAnswer file)
+  unfolding networkFileAnswer cellsAnswer
+  network-file-small =
+      let count = fileCount file in
+      whole-file (networkHeading file) (cellsAnswer file count) network-heading-small
+      (further-blocks (blockSize * suc (cellBlocks count)) (cellsBlock count file) (cells-block-small count) (cellBlocks count))
+
+  -- reading: 23 answers the file's count, which is two bytes
+  pub read-small : ((i : ℕ) → getD file i 0 < 256) → (s : State) (values care work roots cells : List ℕ)
+      → Small (readOutcome s file values care work roots cells .answer)
+  unfolding readOutcome readAnswer
+  read-small bytes s values care work roots cells =
+      let n = fileInputs file in
+      let m = fileOutputs file in
+      let count = fileCount file in
+      let same = canonical true n m (fileOrder file) (fileDiagram file) in
+      let good = wellFormed true n m (fileDiagram file) in
+      let last = unless same NotCanonical (Done 0) in
+      let cells-checked = unless good BadCells last in
+      let board = unless (leb count (capacity cells)) (TooSmall count) cells-checked in
+      let tested : Small cells-checked = checked good BadCells last refl (λ _. checked same NotCanonical (Done 0) refl (λ _. none)) in
+      checked (longEnough values care work roots) ShortBuffer (unlessRefused (networkFileAnswer file) board) refl
+      (λ _. after (networkFileAnswer file) board network-file-small
+      (split (leb count (capacity cells)) (λ e. rw e tested) (λ e. rw e (omega (arith, bytes countAt, bytes (suc countAt))))))
 
 pub load-small : (s : State) (file values care : List ℕ) → Small (loadOutcome s file values care .answer)
 unfolding loadOutcome loadAnswer
@@ -163,6 +222,23 @@ module _ (s : State) where
       (λ _. checked (leb (length rows) (length answers)) ShortAnswers network refl
       (λ _. checked (isNetwork (stageOf s)) NoNetwork (unless inside NoRow last) refl
       (λ _. checked inside NoRow last refl (λ _. checked (goodCells s roots cells) BadCells (Done 0) refl (λ _. none)))))
+
+  -- a held network's checks, and writing it: the one success is 0
+  canonical-small : (roots cells : List ℕ) → Small (canonicalAnswer s roots cells)
+  unfolding canonicalAnswer
+  canonical-small roots cells =
+      let same = canonical true (s .n) (s .m) (orderOf s) (lentDiagram (s .count) (s .m) cells roots) in
+      let last = unless same NotCanonical (Done 0) in
+      let good = unless (goodCells s roots cells) BadCells last in
+      checked (leb rootsSize (length roots)) ShortBuffer (unless (isNetwork (stageOf s)) NoNetwork good) refl
+      (λ _. checked (isNetwork (stageOf s)) NoNetwork good refl
+      (λ _. checked (goodCells s roots cells) BadCells last refl (λ _. checked same NotCanonical (Done 0) refl (λ _. none))))
+
+  pub write-small : (roots cells work file : List ℕ) → Small (writeAnswer s roots cells work file)
+  unfolding writeAnswer
+  write-small roots cells work file =
+      let long = leb rootsSize (length roots) && (leb workSize (length work) && leb fileSize (length file)) in
+      checked long ShortBuffer (canonicalAnswer s roots cells) refl (λ _. canonical-small roots cells)
 
   -- the calls that are lent values, care and a work buffer: 10, then 21
   module _ (values care work : List ℕ) where

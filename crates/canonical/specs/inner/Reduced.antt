@@ -24,7 +24,7 @@ reducedNodes cells count = all (nodeReduced true) (lentNodes cells count) && dis
 
 -- how many slots there are; src/lib.rt has the constant, SLOTS
 abbrev pub slots : ℕ
-slots = 16384
+slots = 65536
 
 -- a slot of a node, by its numbers: nodes in different slots differ
 unfoldable pub slotOf : Node → ℕ

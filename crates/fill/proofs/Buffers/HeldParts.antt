@@ -38,6 +38,14 @@ past-same : (m work : List ℕ) → drop workSize m ≡ drop workSize work → z
 unfolding zeroWork
 past-same m work e = ap (λ (y : List ℕ). replicate workSize 0 ++ y) e
 
+zero-past : (work : List ℕ) → drop workSize (zeroWork work) ≡ drop workSize work
+unfolding zeroWork
+zero-past work = drop-at (replicate workSize 0) (drop workSize work) workSize (length-replicate workSize 0)
+
+-- and stays as it is when it is zeroed again
+pub zero-zero : (work : List ℕ) → zeroWork (zeroWork work) ≡ zeroWork work
+zero-zero work = past-same (zeroWork work) work (zero-past work)
+
 pub holding-past : (from : ℕ) (parts : List (List ℕ)) (bytes m work : List ℕ) → zeroWork m ≡ zeroWork work
     → holding from parts bytes m ≡ holding from parts bytes work
 unfolding holding
@@ -58,14 +66,10 @@ module _ (work : List ℕ) (big : workSize ≤ length work) where
       length-append (replicate workSize 0) (drop workSize work)
       ∙ omega (sizes, length-replicate {A = ℕ} workSize 0, length-drop workSize work)
 
-  -- zeros written over it, and what lies past its size
+  -- zeros written over it
   zero-again : (k j : ℕ) → k + j ≤ workSize → splice (zeroWork work) k (replicate j 0) ≡ zeroWork work
   unfolding zeroWork
   zero-again k j h = splice-zeros (drop workSize work) workSize k j (omega sizes)
-
-  zero-past : drop workSize (zeroWork work) ≡ drop workSize work
-  unfolding zeroWork
-  zero-past = drop-at (replicate workSize 0) (drop workSize work) workSize (length-replicate workSize 0)
 
   -- what is held: parts of s bytes each, and the bytes
   module _ (s from : ℕ) (parts : List (List ℕ)) (bytes : List ℕ) (fit : Fit s parts) (region : Region from) where
@@ -116,7 +120,7 @@ module _ (work : List ℕ) (big : workSize ≤ length work) where
           fit-end s from linksAt (zeroWork work) (region-end from region)
               (omega (sizes, length-zero)) parts fit,
         ))
-        ∙ zero-past in
+        ∙ zero-past work in
         past-same (splice a linksAt bytes) work e
 
     -- A level of entries' parts of s′ bytes and their links is written: the parts to the other region, the links behind the bytes. And the

@@ -2,7 +2,7 @@
 -- Assumes nothing.
 use borrow.Author.Needs.{needs}
 use denote.Ref.{now}
-use Rattle.cellfile.proofs.WrittenBlocks.{check-next}
+use Rattle.cellfile.proofs.Writing.WrittenBlocks.{check-next}
 use Rattle.cellfile.proofs.blocks.write_block.Statement.{statement}
 use Rattle.cellfile.proofs.blocks.write_block.Tie as tie
 

@@ -9,8 +9,8 @@ use Rattle.block.specs.Block.{blockSize}
 use Rattle.table.specs.Calls.{over}
 use Rattle.table.proofs.Over.{length-over}
 use Rattle.cellfile.specs.Write.{fileByte}
-use Rattle.cellfile.proofs.FileSizes.{file-size, cell-blocks-most}
-use Rattle.cellfile.proofs.WrittenBlocks.{over-further, over-already}
+use Rattle.cellfile.proofs.Format.FileSizes.{file-size, cell-blocks-most}
+use Rattle.cellfile.proofs.Writing.WrittenBlocks.{over-further, over-already}
 use Rattle.cellfile.proofs.blocks.write_blocks.Statement.{statement}
 use Rattle.cellfile.proofs.blocks.write_blocks.Tie as tie
 

@@ -13,7 +13,7 @@ use Rattle.table.specs.Calls.{over}
 use Rattle.table.proofs.Over.{length-over}
 use Rattle.cellfile.specs.Write.{blockContent, fileByte}
 use Rattle.cellfile.specs.inner.Writable.{blockSum}
-use Rattle.cellfile.proofs.WrittenBlocks.{content-next}
+use Rattle.cellfile.proofs.Writing.WrittenBlocks.{content-next}
 use Rattle.cellfile.proofs.blocks.write_content.Statement.{statement}
 use Rattle.cellfile.proofs.blocks.write_content.Tie as tie
 

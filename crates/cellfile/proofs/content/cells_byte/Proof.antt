@@ -7,7 +7,7 @@ use native.Mathlib.Omega.{arith}
 use denote.Ref.{now}
 use Rattle.block.specs.Block.{contentAt}
 use Rattle.block.specs.Numbers.{numberByte}
-use Rattle.cellfile.proofs.WrittenFields.{carried-field, past-field}
+use Rattle.cellfile.proofs.Writing.WrittenFields.{carried-field, past-field}
 use Rattle.cellfile.proofs.content.cells_byte.Statement.{statement}
 use Rattle.cellfile.proofs.content.cells_byte.Tie as tie
 

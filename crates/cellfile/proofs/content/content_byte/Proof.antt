@@ -5,7 +5,7 @@ use mathlib.Core.Path.{sym, _∙_}
 use borrow.Author.Tests.{eq-eqb, ne-eqb}
 use denote.Ref.{now}
 use Rattle.cellfile.specs.Write.{headingByte, cellsByte}
-use Rattle.cellfile.proofs.SealedBlock.{headed-content}
+use Rattle.cellfile.proofs.Format.SealedBlock.{headed-content}
 use Rattle.cellfile.proofs.content.content_byte.Statement.{statement}
 use Rattle.cellfile.proofs.content.content_byte.Tie as tie
 

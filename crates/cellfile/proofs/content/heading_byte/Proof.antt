@@ -8,8 +8,8 @@ use denote.Ref.{now}
 use Rattle.block.specs.Numbers.{numberByte}
 use Rattle.cellfile.specs.File.{rootsAt}
 use Rattle.cellfile.specs.Write.{headingByte}
-use Rattle.cellfile.proofs.WrittenFields.{inputs-field, outputs-field, order-field, unused-field, count-field}
-use Rattle.cellfile.proofs.WrittenFields.{root-field, rest-field}
+use Rattle.cellfile.proofs.Writing.WrittenFields.{inputs-field, outputs-field, order-field, unused-field, count-field}
+use Rattle.cellfile.proofs.Writing.WrittenFields.{root-field, rest-field}
 use Rattle.cellfile.proofs.content.heading_byte.Statement.{statement}
 use Rattle.cellfile.proofs.content.heading_byte.Tie as tie
 

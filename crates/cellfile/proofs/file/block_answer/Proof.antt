@@ -7,7 +7,7 @@ use denote.Ref.{now}
 use borrow.Author.Needs.{needs}
 use Rattle.block.specs.Block.{goodCheck}
 use Rattle.table.specs.declared.Answer.the-variants.{BadKind}
-use Rattle.cellfile.proofs.BlockRead.{heading-read, cells-read, no-kind, check-wrong, kind-read}
+use Rattle.cellfile.proofs.Reading.BlockRead.{heading-read, cells-read, no-kind, check-wrong, kind-read}
 use Rattle.cellfile.proofs.file.block_answer.Statement.{statement}
 use Rattle.cellfile.proofs.file.block_answer.Tie as tie
 

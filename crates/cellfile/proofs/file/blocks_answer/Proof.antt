@@ -8,7 +8,7 @@ use native.Mathlib.Omega.{arith}
 use Rattle.table.specs.Answer.{done, firstRefusal}
 use Rattle.table.proofs.Answers.{refusal-next, refusal-stop, refusal-end}
 use Rattle.cellfile.specs.File.{cellsBlock}
-use Rattle.cellfile.proofs.BlockRead.{read-further}
+use Rattle.cellfile.proofs.Reading.BlockRead.{read-further}
 use Rattle.cellfile.proofs.file.blocks_answer.Statement.{statement}
 use Rattle.cellfile.proofs.file.blocks_answer.Tie as tie
 

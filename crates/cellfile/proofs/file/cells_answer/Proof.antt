@@ -3,7 +3,8 @@
 use borrow.Author.Needs.{needs}
 use denote.Ref.{now}
 use native.Mathlib.Omega.{arith}
-use Rattle.cellfile.proofs.BlockRead.{few-blocks, wrong-total, right-total}
+use Rattle.cellfile.proofs.Format.FileSizes.{few-blocks}
+use Rattle.cellfile.proofs.Reading.BlockRead.{wrong-total, right-total}
 use Rattle.cellfile.proofs.file.cells_answer.Statement.{statement}
 use Rattle.cellfile.proofs.file.cells_answer.Tie as tie
 

@@ -8,7 +8,7 @@ use denote.Ref.{now}
 use Rattle.block.specs.Block.{wholeBlocks}
 use Rattle.table.specs.Answer.{done}
 use Rattle.cellfile.specs.File.{networkHeading, cellsAnswer, networkFileAnswer}
-use Rattle.cellfile.proofs.BlockRead.{read-heading}
+use Rattle.cellfile.proofs.Reading.BlockRead.{read-heading}
 use Rattle.cellfile.proofs.file.file_answer.Statement.{statement}
 use Rattle.cellfile.proofs.file.file_answer.Tie as tie
 

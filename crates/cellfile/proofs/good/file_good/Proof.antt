@@ -12,21 +12,19 @@ use Rattle.network.proofs.RootTurns.{roots-size}
 use Rattle.network.proofs.Tested.{formed-not, formed-rest}
 use Rattle.cellfile.specs.File.{fileDiagram}
 use Rattle.cellfile.specs.inner.Cells.{fileCells, fileRoots}
-use Rattle.cellfile.proofs.FileCells.{roots-long, copied-lists, copied-diagram}
+use Rattle.cellfile.proofs.Reading.Copied.{roots-long, own-diagram}
 use Rattle.cellfile.proofs.good.file_good.Statement.{statement}
 use Rattle.cellfile.proofs.good.file_good.Tie as tie
 
-own-diagram : (c : tie.Start)
+own-formed : (c : tie.Start)
     → let a = c .args in
     let f = now (a .file) in
     wellFormed true (a .n) (a .m) (lentDiagram (a .count) (a .m) (fileCells (a .count) f) (fileRoots f))
     ≡ wellFormed true (a .n) (a .m) (fileDiagram f)
-own-diagram c =
+own-formed c =
     let a = c .args in
-    let f = now (a .file) in
     ap (wellFormed true (a .n) (a .m))
-    (copied-diagram f (a .count) (a .m) (fileCells (a .count) f) (fileRoots f) (copied-lists f (a .count)) (c .pre .0 .0) (c .pre .0 .1)
-    (omega (arith, roots-size)))
+    (own-diagram (now (a .file)) (omega (arith, roots-size, c .pre .0 .1)) (a .count) (a .m) (c .pre .0 .0) (c .pre .0 .1))
 
 roots-good-requires : tie.Need-roots-good-requires
 roots-good-requires c κs = search needs
@@ -38,7 +36,7 @@ returns c =
     let f = now (a .file) in
     let g = c .before .roots-good in
     sym
-    (sym (own-diagram s)
+    (sym (own-formed s)
     ∙ formed-not (a .count) (fileCells (a .count) f) (fileRoots f) (a .m) (omega (arith, roots-long f, roots-size)) (a .n)
     (sym (g .ensures) ∙ not-true (g .result) (c .if1 .taken)))
 
@@ -55,7 +53,7 @@ returns-2 c =
     ∙ sym
     (formed-rest (a .count) (fileCells (a .count) f) (fileRoots f) (a .m) (omega (arith, roots-long f, roots-size)) (a .n)
     (sym (g .ensures) ∙ not-false (g .result) (c .before .if1 .left)))
-    ∙ own-diagram s
+    ∙ own-formed s
 
 pub file-good-spec : {M : Type 1} → statement M
 file-good-spec = tie.close (tie.spec roots-good-requires returns nodes-good-requires returns-2)

@@ -8,7 +8,7 @@ use denote.Ref.{now}
 use lib.Dec.{ltb}
 use Rattle.cellfile.specs.inner.Cells.{fileCells}
 use Rattle.network.proofs.Tested.{later-constant, later-past, later-own}
-use Rattle.cellfile.proofs.FileCells.{cell-read}
+use Rattle.cellfile.proofs.Reading.Copied.{cell-read}
 use Rattle.cellfile.proofs.good.later_than.Statement.{statement}
 use Rattle.cellfile.proofs.good.later_than.Tie as tie
 

@@ -9,7 +9,7 @@ use borrow.Author.Needs.{needs}
 use Rattle.table.specs.Answer.{done}
 use Rattle.network.specs.Build.{longEnough}
 use Rattle.cellfile.specs.File.{networkFileAnswer}
-use Rattle.cellfile.proofs.ReadAnswer.{short, file-refused, small-board, last-tests}
+use Rattle.cellfile.proofs.Reading.ReadAnswer.{short, file-refused, small-board, last-tests}
 use Rattle.cellfile.proofs.read.answer_of.Statement.{statement}
 use Rattle.cellfile.proofs.read.answer_of.Tie as tie
 

@@ -4,7 +4,7 @@ use mathlib.Core.Path.{sym, _∙_}
 use borrow.Author.Tests.{not-true, not-false}
 use denote.Ref.{now}
 use borrow.Author.Needs.{needs}
-use Rattle.cellfile.proofs.ReadCall.{refusal, readable, reading}
+use Rattle.cellfile.proofs.Reading.ReadCall.{refusal, readable, reading}
 use Rattle.cellfile.proofs.read.read_cells.Statement.{statement}
 use Rattle.cellfile.proofs.read.read_cells.Tie as tie
 

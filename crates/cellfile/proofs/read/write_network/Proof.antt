@@ -1,18 +1,16 @@
 -- `cellfile::read::write_network` meets its contract: what is tabulated is a copy of the file's numbers.
 -- Assumes nothing.
 use mathlib.Core.Path.{_≡_, ap, _∙_}
-use Prim.Native.Nat.{ℕ, _*_, _/_, _≤_}
+use Prim.Native.Nat.{ℕ, _*_}
 use denote.Ref.{now}
-use native.Mathlib.Omega.{arith}
-use lib.ListN.{length}
 use borrow.Author.Needs.{needs}
 use Rattle.table.specs.declared.State.{State}
 use Rattle.table.specs.Calls.{over}
 use Rattle.network.specs.Tabulate.{tabulateValues, tabulateCare}
 use Rattle.cellfile.specs.File.{fileCount, cellNumber}
-use Rattle.cellfile.proofs.Checked.{shape-of, passed}
-use Rattle.cellfile.proofs.Copying.{copied-over, copied-room}
-use Rattle.cellfile.proofs.ReadTable.{tabulated}
+use Rattle.cellfile.proofs.Reading.Checked.{shape-of, passed}
+use Rattle.cellfile.proofs.Reading.Copied.{outputs-fit, copied-over}
+use Rattle.cellfile.proofs.Reading.ReadTable.{tabulated}
 use Rattle.cellfile.proofs.read.write_network.Statement.{statement}
 use Rattle.cellfile.proofs.read.write_network.Tie as tie
 
@@ -58,12 +56,11 @@ returns c =
     let roots = z .last .1 .0 in
     let ec : cells ≡ over (cellNumber f) (3 * fileCount f) (now (a .cells)) =
     y .ensures ∙ ap (λ (n : ℕ). over (cellNumber f) (3 * n) (now (a .cells))) (k .ensures .0) in
-    let room : fileCount f ≤ length cells / 3 =
-    omega (arith, p .cells-room, copied-room f (fileCount f) (now (a .cells)) cells (p .cells-room) ec) in
+    let h = shape-of f (p .accepted) in
     let w =
-    tabulated f (shape-of f (p .accepted)) (passed f (p .checked)) cells roots
-    (copied-over f (fileCount f) (now (a .cells)) (now (a .roots)) cells roots (p .roots-room) ec (z .ensures)) room (now (a .values))
-    (now (a .care)) (p .values-room) (p .care-room) in (
+    tabulated f h (passed f (p .checked)) cells roots
+    (copied-over f (outputs-fit f h) (now (a .cells)) (now (a .roots)) cells roots (p .cells-room) (p .roots-room) ec (z .ensures))
+    (now (a .values)) (now (a .care)) (p .values-room) (p .care-room) in (
       x .ensures .1 .0 ∙ ap (λ (h : State). tabulateValues h roots cells (now (a .values)) (now (a .care))) (s .pre .1) ∙ w .0,
       (
         x .ensures .1 .1 ∙ ap (λ (h : State). tabulateCare h roots cells (now (a .values)) (now (a .care))) (s .pre .1) ∙ w .1,

@@ -3,14 +3,13 @@
 use mathlib.Core.Path.{_≡_, ap, _∙_}
 use Prim.Native.Nat.{ℕ, _*_}
 use denote.Ref.{now}
-use native.Mathlib.Omega.{arith}
 use borrow.Author.Needs.{needs}
 use Rattle.table.specs.declared.State.{State}
 use Rattle.table.specs.Calls.{over}
 use Rattle.canonical.specs.Canonical.{canonicalAnswer}
 use Rattle.cellfile.specs.File.{fileCount, cellNumber}
-use Rattle.cellfile.proofs.Checked.{shape-of, copy-checked}
-use Rattle.cellfile.proofs.Copying.{copied-over, copied-room}
+use Rattle.cellfile.proofs.Reading.Checked.{shape-of, copy-checked}
+use Rattle.cellfile.proofs.Reading.Copied.{outputs-fit, copied-over}
 use Rattle.cellfile.proofs.verify.copy_answer.Statement.{statement}
 use Rattle.cellfile.proofs.verify.copy_answer.Tie as tie
 
@@ -50,10 +49,11 @@ returns c =
     let roots = z .last .1 .0 in
     let ec : cells ≡ over (cellNumber f) (3 * fileCount f) (now (s .args .cells)) =
     y .ensures ∙ ap (λ (n : ℕ). over (cellNumber f) (3 * n) (now (s .args .cells))) (k .ensures .0) in
+    let h = shape-of f (s .pre .0) in
     c .canonical-answer .ensures ∙ ap (λ (h : State). canonicalAnswer h roots cells) (t .ensures)
-    ∙ copy-checked f (shape-of f (s .pre .0)) cells roots
-    (copied-over f (fileCount f) (now (s .args .cells)) (now (s .args .roots)) cells roots (s .pre .1 .0) ec (z .ensures))
-    (omega (arith, s .pre .1 .1, copied-room f (fileCount f) (now (s .args .cells)) cells (s .pre .1 .1) ec))
+    ∙ copy-checked f h cells roots
+    (copied-over f (outputs-fit f h) (now (s .args .cells)) (now (s .args .roots)) cells roots (s .pre .1 .1) (s .pre .1 .0) ec
+    (z .ensures))
 
 pub copy-answer-spec : {M : Type 1} → statement M
 copy-answer-spec =

@@ -2,7 +2,7 @@
 -- Assumes nothing.
 use borrow.Author.Needs.{needs}
 use denote.Ref.{now}
-use Rattle.cellfile.proofs.ReadState.{state-read}
+use Rattle.cellfile.proofs.Reading.ReadState.{state-read}
 use Rattle.cellfile.proofs.verify.file_state.Statement.{statement}
 use Rattle.cellfile.proofs.verify.file_state.Tie as tie
 

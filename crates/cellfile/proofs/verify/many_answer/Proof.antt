@@ -9,7 +9,7 @@ use borrow.Author.Needs.{needs}
 use Rattle.diagram.specs.Diagram.{wellFormed}
 use Rattle.table.specs.File.{fileInputs, fileOutputs}
 use Rattle.cellfile.specs.File.{fileDiagram}
-use Rattle.cellfile.proofs.Checked.{shape-of, many-formed, many-bad}
+use Rattle.cellfile.proofs.Reading.Checked.{shape-of, many-formed, many-bad}
 use Rattle.cellfile.proofs.verify.many_answer.Statement.{statement}
 use Rattle.cellfile.proofs.verify.many_answer.Tie as tie
 

@@ -1,0 +1,3 @@
+pub mod AcceptedNetwork
+pub mod FileSizes
+pub mod SealedBlock

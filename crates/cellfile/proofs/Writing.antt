@@ -1,0 +1,3 @@
+pub mod WriteCall
+pub mod WrittenBlocks
+pub mod WrittenFields

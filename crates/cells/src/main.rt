@@ -1,0 +1,32 @@
+// Writes the network file of the table on standard input to standard output (document 02, 2.2).
+use cellfile::FILE;
+use fill::WORK;
+use libc::STDIN_FILENO;
+use libc::STDOUT_FILENO;
+use network::ROOTS;
+use printed::input::LONGEST;
+use printed::netfile::write_table;
+use printed::output::CELLS;
+use table::PLANE;
+
+fn main() {
+    // One byte more than the longest input, to see that there is more.
+    let mut file = [0u8; LONGEST + 1];
+    let mut values = [0u8; PLANE];
+    let mut care = [0u8; PLANE];
+    let mut work = [0u8; WORK];
+    let mut roots = [0u16; ROOTS];
+    let mut cells = [0u16; CELLS];
+    let mut out = [0u8; FILE];
+    let length = io::read_full(STDIN_FILENO, &mut file);
+    let end = write_table(
+        &file[..length],
+        &mut values,
+        &mut care,
+        &mut work,
+        &mut roots,
+        &mut cells,
+        &mut out,
+    );
+    io::write_all(STDOUT_FILENO, &out[..end]);
+}
