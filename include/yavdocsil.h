@@ -100,7 +100,8 @@ uint64_t yav_read_cells(uint64_t *state, size_t state_words, const uint8_t *file
 /* Exchanges the inputs at `place` and the place below it. Numbers 10, 21, 9. */
 uint64_t yav_swap(uint64_t *state, size_t state_words, uint64_t place);
 
-/* Moves one input to the place where the network takes the fewest cells, and answers those. Numbers 10, 21, 9. */
+/* Moves one input to the place where the network takes the fewest cells, and answers those. It stays where it is if no other place
+ * takes fewer; of several that do, the smallest is taken. Numbers 10, 21, 9. */
 uint64_t yav_sift(uint64_t *state, size_t state_words, uint64_t input, const uint8_t *values, size_t values_bytes,
                   const uint8_t *care, size_t care_bytes, uint8_t *work, size_t work_bytes);
 

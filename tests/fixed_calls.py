@@ -6,6 +6,7 @@ left to the random chunks. The dirt around them is random all the same.
 """
 
 import functools
+import itertools
 
 import cases
 import files
@@ -17,7 +18,8 @@ import lending
 import library
 import refusals
 from fixed_lent import (
-    CONSTANTS, FREE_ROWS, INSIDE, OUTSIDE, WHOLE, Held, Lengths, every, lent_with, one, sound_file,
+    CONSTANTS, FREE_ROWS, INSIDE, OUTSIDE, PARITY, TWO_ANDS, WHOLE, Held, Lengths, every, lent_with,
+    one, sound_file,
 )
 from lending import HUGE, MOST_ORDERS
 from library import Call
@@ -147,6 +149,18 @@ def moves(rng):
             yield one(rng, name, f"{argument} {number}", held, asked=changed)
 
 
+def ties(rng):
+    """Every input sifted from every order of four, and passes from each, of
+    tables where places tie: all of them, or the best two, or the present one."""
+    for note, table in (("parity", PARITY), ("two ands", TWO_ANDS), ("free rows", FREE_ROWS)):
+        for order in itertools.permutations(range(4)):
+            held = Held(order=order + (9, 2, HUGE, 0, 4, 1))
+            asked = [("sift", INSIDE._replace(input=sifted)) for sifted in range(4)]
+            asked += [("pass", INSIDE._replace(limit=limit)) for limit in (4, 8, 12, 16)]
+            for name, numbers in asked:
+                yield one(rng, name, f"{note}, order {order}", held, asked=numbers, table=table)
+
+
 def sizes(rng):
     """The same calls where n is at an end."""
     asked = [("swap", 0, 0), ("swap", 0, HUGE), ("swap", 1, 0), ("swap", 2, 0), ("swap", 10, 8)]
@@ -166,7 +180,7 @@ def refused(rng, name):
 
 CHUNKS = [
     widest, shapes, lengths_at_limits, headings, files_and_states, sizes_of_files, boards, moves,
-    sizes, fixed_diagrams.all_calls, fixed_rows.all_calls,
+    ties, sizes, fixed_diagrams.all_calls, fixed_rows.all_calls,
 ]
 CHUNKS += fixed_writes.CHUNKS + fixed_reads.CHUNKS
 CHUNKS += [functools.partial(damages, base=base) for base in cases.DAMAGE_BASES]

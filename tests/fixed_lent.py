@@ -25,6 +25,7 @@ Asked = namedtuple("Asked", "place input limit row")
 # The first two bytes of values, and of care.
 TWO_ANDS = bytes([0x88, 0xF8]), bytes([0xFF, 0xFF])
 FREE_ROWS = bytes([0x69, 0xD2]), bytes([0xBD, 0x7E])
+PARITY = bytes([0x96, 0x69]), bytes([0xFF, 0xFF])
 CONSTANTS = bytes([0x00, 0xFF]), bytes([0xFF, 0x00])
 
 WHOLE = Lengths(40, 2048, 2048, 32768, 16, 24)

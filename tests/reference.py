@@ -1,5 +1,5 @@
-"""The paper's sections 1 to 7, and document 02's 2.1, written once more, as
-plainly as possible.
+"""The paper's sections 1 to 7, and document 02's 2.1 and 2.3, written once more,
+as plainly as possible.
 
 This is the other implementation that the programs are compared with. It is
 made from the papers alone and shares nothing with the crates. Rows are lists,
@@ -483,13 +483,16 @@ def trials(order, sifted_input):
 
 
 def best_trial(table, order, sifted_input):
-    """The order with the fewest cells, and its cells; smallest place on ties."""
-    best, fewest = None, None
-    for trial in trials(order, sifted_input):
-        cells = cost(table, trial)
-        if best is None or cells < fewest:
-            best, fewest = trial, cells
-    return best, fewest
+    """The order that a sift leaves, and its cells. Document 02, 2.3: 'When an
+    input's present place is among the fewest, the sift keeps it; otherwise the
+    smallest place wins.'
+    """
+    tried = trials(order, sifted_input)
+    cells = [cost(table, trial) for trial in tried]
+    fewest = [place for place in range(len(tried)) if cells[place] == min(cells)]
+    present = order.index(sifted_input)
+    place = present if present in fewest else fewest[0]
+    return tried[place], cells[place]
 
 
 def sift(state, sifted_input, values, care, work):

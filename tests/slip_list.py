@@ -53,7 +53,15 @@ COUNT_START = "def count(state, values, care, work):\n"
 PASS_END = "    leave_table(state, order)\n    clear_work(work)\n    return 0, tried\n"
 SWAP_END = "    leave_table(state, order)\n    return 0, 0\n"
 BUILD_END = "    state.count = len(new_cells)\n    state.stage = NETWORK\n"
-BEST_START = "    best, fewest = None, None\n"
+TRIED = "    tried = trials(order, sifted_input)\n"
+TAKEN = "present if present in fewest else fewest[0]"
+TURN = "        order, _ = best_trial(table, order, chosen)\n"
+FIRST_PRESENT = """\
+        first = used_order(state).index(chosen)
+        each = trials(order, chosen)
+        cells = [cost(table, trial) for trial in each]
+        order = each[first if cells[first] == min(cells) else cells.index(min(cells))]
+"""
 FILLED_ONCE = """\
     rows = [row_in_file(row, order) for row in range(2**table.n)]
     found = filled(table, order)
@@ -226,7 +234,25 @@ NETWORK_SLIPS = [
 ]
 
 SIFT_SLIPS = [
-    ("sift: the larger place on ties", "or cells < fewest:", "or cells <= fewest:"),
+    ("sift: the smallest place although the present one is as good", TAKEN, "fewest[0]"),
+    ("sift: the largest place on ties", TAKEN, "fewest[-1]"),
+    (
+        "sift: the largest place where the input does not stay", TAKEN,
+        TAKEN.replace("fewest[0]", "fewest[-1]"),
+    ),
+    (
+        "sift: the nearest place where the input does not stay", TAKEN,
+        TAKEN.replace("fewest[0]", "min(fewest, key=lambda place: abs(place - present))"),
+    ),
+    (
+        "sift: the present place although another has a cell less", TAKEN,
+        TAKEN.replace("present in fewest", "cells[present] <= min(cells) + 1"),
+    ),
+    (
+        "sift: the input's number for its place", "present = order.index(sifted_input)",
+        "present = sifted_input",
+    ),
+    ("pass: the present place is that of the first order", TURN, FIRST_PRESENT),
     ("pass: the limit itself is too many", "tried + state.n <= limit:", "tried + state.n < limit:"),
     ("pass: the highest number on ties", "or held > most:", "or held >= most:"),
     (
@@ -234,10 +260,11 @@ SIFT_SLIPS = [
         "chosen = next_input(table, used_order(state), unsifted)",
     ),
     (
-        "sift: the last place is not tried", "in trials(order, sifted_input):",
-        "in trials(order, sifted_input)[: max(1, len(order) - 1)]:",
+        # Where the input stands at the last place, that one is tried as the present one.
+        "sift: the last place is not tried", TRIED,
+        TRIED + "    if order[-1] != sifted_input:\n        tried.pop()\n",
     ),
-    ("sift: the table is filled once", BEST_START, FILLED_ONCE + BEST_START),
+    ("sift: the table is filled once", TRIED, FILLED_ONCE + TRIED),
 ]
 
 # Document 02's 2.1.

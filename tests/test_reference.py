@@ -216,15 +216,41 @@ class Sifting(unittest.TestCase):
     def test_pass_by_its_limit(self):
         # From 0 2 1 3, inputs 1 and 2 have two cells each, 0 and 3 one. So 1
         # goes first, to the top; then all have one cell each and 0, 2 and 3
-        # follow, each to the smallest place that keeps the four cells.
+        # follow. No place has fewer than the four cells, so each stays where it
+        # is then: input 0 at place 1, not at place 0, where it was at first.
         wanted = {
             0: (0, "0 2 1 3"), 3: (0, "0 2 1 3"), 4: (4, "1 0 2 3"), 7: (4, "1 0 2 3"),
-            8: (8, "0 1 2 3"), 12: (12, "0 1 2 3"), 15: (12, "0 1 2 3"),
-            16: (16, "0 1 3 2"), 17: (16, "0 1 3 2"), 4294967295: (16, "0 1 3 2"),
+            8: (8, "1 0 2 3"), 12: (12, "1 0 2 3"), 15: (12, "1 0 2 3"),
+            16: (16, "1 0 2 3"), 17: (16, "1 0 2 3"), 4294967295: (16, "1 0 2 3"),
         }
         for limit, (tried, order) in wanted.items():
             lines = desk_lines(two_ands([0, 2, 1, 3]), f"build pass {limit} order state")
             self.assertEqual(lines[2:], [f"pass 0 {tried}", f"order {order}", "state table 0"])
+
+    def test_present_place_is_kept_on_ties(self):
+        # Exclusive-or has two cells in both orders. Of section 9's table every
+        # input's own place has as few cells as any where the cells are four,
+        # and so has input 3's in the order 0 2 1 3, where every place has six.
+        exclusive_or = ("0 1", "1 0")
+        for order in exclusive_or:
+            file = files.table_from_rows(["0 1 1 0"], [int(v) for v in order.split()])
+            for sifted in (0, 1):
+                lines = desk_lines(file, f"sift {sifted} order")[1:]
+                self.assertEqual(lines, ["sift 0 2", f"order {order}"])
+        four, six = ["0 1 2 3", "1 0 2 3", "2 3 0 1", "3 2 1 0"], ["0 2 1 3"]
+        asked = [(order, sifted, 4) for order in four for sifted in range(4)]
+        for order, sifted, cells in asked + [(order, 3, 6) for order in six]:
+            file = two_ands([int(v) for v in order.split()])
+            lines = desk_lines(file, f"sift {sifted} order")[1:]
+            self.assertEqual(lines, [f"sift 0 {cells}", f"order {order}"])
+
+    def test_smallest_place_otherwise(self):
+        # Beside input 0, above or below it, input 1 leaves four cells; between
+        # inputs 2 and 3, or with both between it and input 0, six.
+        for order, left in (("0 2 1 3", "1 0 2 3"), ("0 2 3 1", "1 0 2 3"), ("1 2 3 0", "2 3 1 0")):
+            file = two_ands([int(v) for v in order.split()])
+            lines = desk_lines(file, "sift 1 order")[1:]
+            self.assertEqual(lines, ["sift 0 4", f"order {left}"])
 
     def test_last_place_is_tried(self):
         # Input 1 beside both inputs' and: three cells with 1 on top, two below.

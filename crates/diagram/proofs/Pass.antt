@@ -9,7 +9,7 @@ use native.Mathlib.Omega.{arith}
 use lib.Dec.{T, eqb, ltb, leb, ltb→lt, lt→ltb, nltb→le, leb→le, nleb→lt}
 use lib.ListN.{length}
 use Rattle.diagram.specs.Lists.{all, has, distinct, upTo}
-use Rattle.diagram.specs.Order.{isOrder}
+use Rattle.diagram.specs.Order.{isOrder, moved}
 use Rattle.diagram.specs.Table.{Table, cost}
 use Rattle.diagram.specs.Sift.{nodesOf, Pass, unsifted, next, turn, start, sifting, pass, allowed}
 use Rattle.diagram.specs.Demands.{SiftedLeast, orderAfter, TurnsLeast}
@@ -17,7 +17,7 @@ use Rattle.diagram.proofs.Bools.{split, of-not, to-T, to-not, and-T}
 use Rattle.diagram.proofs.Lists.{eqb-equality, has-keep, keep-has, index-lt, pigeonhole}
 use Rattle.diagram.proofs.Numbers.{length-upTo, has-upTo, upTo-lt, none-missing}
 use Rattle.diagram.proofs.Most.{rising-distinct, rising-keep, rising-upTo, most-has, most-most, most-first}
-use Rattle.diagram.proofs.Sift.{sift-order, sifted}
+use Rattle.diagram.proofs.Sift.{sift-order, sift-stays, sifted}
 
 -- after k turns, whatever the limit
 unfoldable pub afterTurns : Table → ℕ → List ℕ → Pass
@@ -93,6 +93,12 @@ module _ (t : Table) (s : Pass) (h : length (s .sifted) < t .n) where
         apart = and-T (not (has eqb (next t s) (s .sifted))) (distinct eqb (s .sifted)) (to-not next-unsifted) (g .apart);
         below = and-T (ltb (next t s) (t .n)) (all (λ v. ltb v (t .n)) (s .sifted)) (lt→ltb (next t s) (t .n) next-below) (g .below);
       }
+
+  -- the order is as it was where the level of the variable that comes next, as it then is, is among the fewest
+  pub turn-stays : T (isOrder (t .n) (s .order)) → ((p : ℕ) → p < t .n → cost t (s .order) ≤ cost t (moved (next t s) p (s .order)))
+      → turn t s .order ≡ s .order
+  unfolding turn
+  turn-stays o least = sift-stays t (next t s) (s .order) o next-below least
 
 -- none left has more nodes under the order, and none lower as many
 module _ (t : Table) (s : Pass) (w : ℕ) (b : w < t .n) (u : has eqb w (s .sifted) ≡ false) where

@@ -6,9 +6,9 @@ use Rattle.diagram.specs.Fill.{fill}
 use Rattle.diagram.specs.Network.{classes, refer, nodes, network, counts, count}
 use Rattle.diagram.specs.Order.{behind, moved}
 use Rattle.diagram.specs.Table.{filled, filledBit, networkOf, cost}
-use Rattle.diagram.specs.Sift.{chosen, sift}
+use Rattle.diagram.specs.Sift.{preferred, chosen, sift}
 use Rattle.diagram.specs.Starred.{holds, starred}
 
 pub starred-hold : T (all holds starred)
-unfolding bit fill classes refer nodes network counts count behind moved filled filledBit networkOf cost chosen sift holds starred
+unfolding bit fill classes refer nodes network counts count behind moved filled filledBit networkOf cost preferred chosen sift holds starred
 starred-hold = tt

@@ -1,6 +1,6 @@
--- Section 5 of document 01: sifting one variable, and a pass under a limit of orders tried.
+-- Section 5 of document 01: sifting one variable, and a pass under a limit of orders tried; ties as document 02's 2.3 has them.
 -- Assumes nothing.
-use mathlib.Core.Bool.{true, not, cond}
+use mathlib.Core.Bool.{Bool, true, not, cond, _&&_}
 use mathlib.Core.List.{List, [], _∷_}
 use Prim.Native.Nat.{ℕ, zero, suc, _+_, _/_, min}
 use lib.Dec.{eqb, ltb, leb}
@@ -15,10 +15,18 @@ abbrev pub fewest : (ℕ → ℕ) → ℕ → ℕ
 fewest f zero = 0
 fewest f (suc k) = cond (ltb (f (suc k)) (f (fewest f k))) (suc k) (fewest f k)
 
--- 'tries all n places top to bottom, the others in sequence, and takes the fewest cells, smallest place on ties'
+-- whether a level is among those of 0 to k with the fewest
+abbrev pub amongFewest : (ℕ → ℕ) → ℕ → ℕ → Bool
+amongFewest f k p = leb p k && eqb (f p) (f (fewest f k))
+
+-- 'When an input's present place is among the fewest, the sift keeps it; otherwise the smallest place wins' (document 02, 2.3)
+unfoldable pub preferred : (ℕ → ℕ) → ℕ → ℕ → ℕ
+preferred f present k = cond (amongFewest f k present) present (fewest f k)
+
+-- 'tries all n places top to bottom, the others in sequence, and takes the fewest cells'
 unfoldable pub chosen : Table → ℕ → List ℕ → ℕ → ℕ
 chosen t v order zero = 0
-chosen t v order (suc k) = fewest (λ p. cost t (moved v p order)) k
+chosen t v order (suc k) = preferred (λ p. cost t (moved v p order)) (index eqb v order) k
 
 -- the order that sifting the variable v leaves
 unfoldable pub sift : Table → ℕ → List ℕ → List ℕ

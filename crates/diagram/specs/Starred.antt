@@ -1,4 +1,5 @@
--- Section 9 of document 01: the starred tables, as one list of claims and one test that computes each from sections 3 to 5.
+-- Section 9 of document 01: the starred tables, as one list of claims and one test that computes each from sections 3 to 5;
+-- and what document 02's 2.3 changes in one of them.
 -- Assumes nothing.
 use mathlib.Core.Bool.{Bool, true, false, Bool·beq, _&&_}
 use mathlib.Core.List.{List, [], _∷_, map}
@@ -55,6 +56,9 @@ holds (fits t order b enough) = Bool·beq (leb (cost t order) b) enough
 abbrev and-or : Table
 and-or = table 4 ((O ∷ O ∷ O ∷ I ∷ O ∷ O ∷ O ∷ I ∷ O ∷ O ∷ O ∷ I ∷ I ∷ I ∷ I ∷ I ∷ []) ∷ [])
 
+abbrev exclusive-or : Table
+exclusive-or = table 2 ((O ∷ I ∷ I ∷ O ∷ []) ∷ [])
+
 abbrev natural : List ℕ
 natural = 0 ∷ 1 ∷ []
 
@@ -68,7 +72,7 @@ starred =
     ∷ builds (table 2 ((O ∷ O ∷ O ∷ I ∷ []) ∷ (I ∷ I ∷ I ∷ O ∷ []) ∷ [])) natural
     ((false ∷ false ∷ false ∷ true ∷ []) ∷ (true ∷ true ∷ true ∷ false ∷ []) ∷ [])
     (cell 0 0 4 ∷ cell 1 0 1 ∷ []) (2 ∷ 3 ∷ [])
-    ∷ builds (table 2 ((O ∷ I ∷ I ∷ O ∷ []) ∷ [])) natural ((false ∷ true ∷ true ∷ false ∷ []) ∷ [])
+    ∷ builds exclusive-or natural ((false ∷ true ∷ true ∷ false ∷ []) ∷ [])
     (cell 0 4 5 ∷ cell 1 0 1 ∷ []) (2 ∷ [])
     ∷ builds (table 2 ((O ∷ I ∷ O ∷ I ∷ []) ∷ [])) natural ((false ∷ true ∷ false ∷ true ∷ []) ∷ [])
     (cell 1 0 1 ∷ []) (2 ∷ [])
@@ -80,6 +84,7 @@ starred =
     ∷ costs and-or (0 ∷ 1 ∷ 2 ∷ 3 ∷ []) 4
     ∷ costs and-or (0 ∷ 2 ∷ 1 ∷ 3 ∷ []) 6
     ∷ sifts and-or (0 ∷ 2 ∷ 1 ∷ 3 ∷ []) 1 (1 ∷ 0 ∷ 2 ∷ 3 ∷ []) 4
+    ∷ sifts exclusive-or natural 1 natural 2
     ∷ fits and-or (0 ∷ 1 ∷ 2 ∷ 3 ∷ []) 3 false
     ∷ fits and-or (0 ∷ 1 ∷ 2 ∷ 3 ∷ []) 4 true
     ∷ []

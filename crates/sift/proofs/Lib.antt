@@ -4,6 +4,7 @@ pub mod CountSucceeds
 pub mod WorkZeroed
 pub mod BestLevel
 pub mod SiftOutcome
+pub mod StaysPut
 pub mod LeadingVariable
 pub mod NextVariable
 pub mod OneTurn

@@ -1,5 +1,5 @@
 // Trying an order means filling and counting under it; trying a variable at every level, from the top down, finds the best of them
-// (document 01, section 5).
+// (document 01, section 5; ties as in document 02, 2.3).
 use crate::order::moved_to;
 use diagram::VARIABLES;
 use table::Answer;
@@ -14,7 +14,7 @@ ghost use Rattle.diagram.specs.Table.{cost};
 ghost use Rattle.table.specs.State.{goodHeading, orderOf, reorderedState};
 ghost use Rattle.fill.specs.Work.{zeroWork};
 ghost use Rattle.fill.specs.Calls.{heldTable, enough};
-ghost use Rattle.sift.specs.inner.Trials.{costAt, bestWith, bestOf};
+ghost use Rattle.sift.specs.inner.Trials.{costAt, isPresent, taken, bestWith, bestOf};
 
 // The best level for a variable so far, the nodes with the variable there, and how many orders were tried to find it.
 pub(crate) struct Best {
@@ -70,7 +70,21 @@ fn trial(state: State, v: usize, p: usize, values: &[u8], care: &[u8], work: &mu
     cost_of(state, after, values, care, work)
 }
 
-// Tries v at level p and counts the trial. The level is the best where none was tried before it, or where it has fewer nodes.
+// Whether a level with so many nodes is taken: where none was tried before it, where it has fewer than the best, or as many and
+// is the present one.
+fn is_taken(best: Best, nodes: usize, present: bool) -> bool
+    ensures { λ r. ⌜ r ≡ taken best nodes present ⌝ }
+{
+    if best.tried == 0 {
+        return true;
+    }
+    if nodes == best.cost {
+        return present;
+    }
+    nodes < best.cost
+}
+
+// Tries v at level p, counts the trial, and takes the level or leaves the best as it was.
 fn try_level(
     state: State,
     v: usize,
@@ -83,19 +97,16 @@ fn try_level(
     requires { ⌜ T (enough (now values) (now care) (now work)) ⌝ }
     requires { ⌜ T (goodHeading (state .n) (state .m) (orderOf state)) ⌝ }
     requires { ⌜ (v < state .n) × ((p < state .n) × (best .tried < mostVariables)) ⌝ }
-    ensures best { λ r. ⌜ r ≡ bestWith best p (costAt (heldTable state (now (values .entry)) (now (care .entry))) v (orderOf state) p) ⌝ }
+    ensures best { λ r.
+        ⌜ r ≡ bestWith best p (costAt (heldTable state (now (values .entry)) (now (care .entry))) v (orderOf state) p)
+        (isPresent v (orderOf state) p) ⌝ }
     ensures work { λ _. ⌜ now (work .exit) ≡ zeroWork (now (work .entry)) ⌝ }
 {
     let nodes = trial(state, v, p, values, care, work);
+    let order = state.order;
+    let present = order[p] == v;
     let tried = best.tried + 1;
-    if best.tried == 0 {
-        return Best {
-            level: p,
-            cost: nodes,
-            tried,
-        };
-    }
-    if nodes < best.cost {
+    if is_taken(best, nodes, present) {
         return Best {
             level: p,
             cost: nodes,
@@ -109,7 +120,7 @@ fn try_level(
     }
 }
 
-// Tries v at every level from the top down, and takes the topmost of those with the fewest nodes.
+// Tries v at every level from the top down. Of those with the fewest nodes it takes the one where v stands, or else the topmost.
 pub(crate) fn best_level(
     state: State,
     v: usize,

@@ -1,20 +1,21 @@
 -- Two tables of as many inputs and outputs, alike on the care of their rows and on the values where they are cared, are filled alike under
 -- every order: their networks, their costs and their sifts are the same.
 -- Assumes nothing.
-use mathlib.Core.Path.{_≡_, refl, sym, ap, _∙_}
+use mathlib.Core.Path.{_≡_, sym, ap, _∙_}
 use mathlib.Core.Bool.{Bool, true, false}
 use mathlib.Core.List.{List, map, map-map}
-use Prim.Native.Nat.{ℕ, zero, suc, _<_, _^_}
+use Prim.Native.Nat.{ℕ, _<_, _^_}
 use lib.ListN.{getD}
 use Rattle.diagram.specs.Lists.{upTo}
 use Rattle.diagram.specs.Tree.{Tree, at, full}
 use Rattle.diagram.specs.Fill.{Row, fill}
 use Rattle.diagram.specs.Network.{network, count}
-use Rattle.diagram.specs.Order.{behind, rowUnder, moved}
+use Rattle.diagram.specs.Order.{behind, rowUnder}
 use Rattle.diagram.specs.Table.{Table, reordered, filled, filledBit, networkOf, cost}
-use Rattle.diagram.specs.Sift.{fewest, chosen, sift}
+use Rattle.diagram.specs.Sift.{sift}
 use Rattle.diagram.proofs.UpTo.{map-upTo-cong}
 use Rattle.diagram.proofs.Order.{behind-lt}
+use Rattle.diagram.proofs.Sift.{sift-cong}
 use Rattle.fill.proofs.Calls.MaskedRows.{mask, masked, fill-masked, draw-masked}
 
 -- a mask forgets a row's value where the row is free
@@ -47,11 +48,6 @@ module _ (t : Table) (g : ℕ → ℕ → Row) (rows : (j r : ℕ) → j < t .m 
   unfolding cost
   cost-same order = ap (count true (t .n)) (filled-same order)
 
-  chosen-same : (v : ℕ) (order : List ℕ) (k : ℕ) → chosen t v order k ≡ chosen other v order k
-  unfolding chosen
-  chosen-same v order zero = refl
-  chosen-same v order (suc k) = ap (λ (f : ℕ → ℕ). fewest f k) (λ i p. cost-same (moved v p order) i)
-
 -- any two that are alike
 module _ (t u : Table) (a : Alike t u) where
   abbrev between : Table
@@ -76,6 +72,4 @@ module _ (t u : Table) (a : Alike t u) where
       ∙ ap (λ (w : Table). filledBit true w order j r) renumbered
 
   pub sift-alike : (v : ℕ) (order : List ℕ) → sift t v order ≡ sift u v order
-  unfolding sift
-  sift-alike v order =
-      ap (λ (p : ℕ). moved v p order) (chosen-same t (u .row) (a .rows) v order (t .n)) ∙ ap (λ (w : Table). sift w v order) renumbered
+  sift-alike v order = sift-cong t u (a .inputs) cost-alike v order

@@ -10,9 +10,8 @@ use lib.ListN.{length}
 use Rattle.table.specs.State.{orderOf}
 use Rattle.table.proofs.Held.{heading-inputs}
 use Rattle.fill.specs.Calls.{heldTable}
-use Rattle.sift.specs.inner.Trials.{costAt}
 use Rattle.sift.proofs.WorkZeroed.{Zeroed, zero-length, zeroed-none, zeroed-again}
-use Rattle.sift.proofs.BestLevel.{bestAfter, after-counted, after-more, best-all}
+use Rattle.sift.proofs.BestLevel.{afterTrials, trials-counted, trials-more, best-all}
 use Rattle.sift.proofs.trials.best_level.Statement.{statement}
 use Rattle.sift.proofs.trials.best_level.Tie as tie
 use Rattle.sift.proofs.trials.best_level.Reads as reads
@@ -21,7 +20,7 @@ use Rattle.sift.proofs.trials.try_level.Reads as try-level-reads
 
 abbrev Inv-loop : tie.InvT-loop
 Inv-loop state v values care work₀ n best₀ p₀ work best p =
-    (p ≤ n) × ((best ≡ bestAfter (costAt (heldTable state values care) v (orderOf state)) p) × Zeroed values care work₀ p work)
+    (p ≤ n) × ((best ≡ afterTrials (heldTable state values care) v (orderOf state) p) × Zeroed values care work₀ p work)
 
 abbrev μ-loop : tie.MeasureT-loop
 μ-loop state v values care work₀ n best₀ p₀ work best p = n - p
@@ -37,11 +36,17 @@ try-level-requires c κs =
     let s = c .before .before .before .before .before .before in
     let a = s .args in
     let l = c .before .before .loop in
-    let f = costAt (heldTable (a .state) (now (a .values)) (now (a .care))) (a .v) (orderOf (a .state)) in
+    let t = heldTable (a .state) (now (a .values)) (now (a .care)) in
     let few = heading-inputs (a .state .n) (a .state .m) (orderOf (a .state)) (s .pre .1 .0) in
     let below = c .before .loop-test .taken in (
       l .inv .1 .1 .room,
-      (s .pre .1 .0, (s .pre .1 .1, (below, omega (arith, few, below, after-counted f (l .p) (l .best) (l .inv .1 .0))))),
+      (
+        s .pre .1 .0,
+        (
+          s .pre .1 .1,
+          (below, omega (arith, few, below, trials-counted t (a .v) (orderOf (a .state)) (l .p) (l .best) (l .inv .1 .0))),
+        ),
+      ),
     )
 
 add-p : tie.Need-add-p Inv-loop μ-loop
@@ -60,7 +65,7 @@ loop-again c =
     let r = c .before .before .try-level in (
       search needs,
       (
-        after-more (costAt (heldTable (a .state) vs cs) (a .v) (orderOf (a .state))) (l .p) (l .best) (r .result) (l .inv .1 .0)
+        trials-more (heldTable (a .state) vs cs) (a .v) (orderOf (a .state)) (l .p) (l .best) (r .result) (l .inv .1 .0)
             (r .ensures .0),
         zeroed-again vs cs (now (a .work)) (l .p) _ (l .work) (r .last .1 .1 .1 .1 .1 .1 .0) (l .inv .1 .1) (r .ensures .1),
       ),
