@@ -1,5 +1,7 @@
 pub mod Below
 pub mod Check
+pub mod Elements
+pub mod Packed
 pub mod Parts
 pub mod StreamBits
 pub mod Sums

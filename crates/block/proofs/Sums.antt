@@ -5,8 +5,12 @@ use mathlib.Core.Bool.{Bool}
 use Prim.Native.Nat.{ℕ, zero, suc, _+_, _-_, _≤_, _<_, min}
 use native.Mathlib.Nat.{add-zero, add-assoc}
 use native.Mathlib.Omega.{arith}
+use borrow.Author.Tests.{eq-eqb, ne-eqb}
+use lib.Dec.{eqb, eqb→eq}
 use Rattle.diagram.specs.Lists.{digit}
+use Rattle.diagram.proofs.Bools.{split, to-T}
 use Rattle.diagram.proofs.Bits.{digit-le}
+use Rattle.diagram.proofs.Numbers.{below-other}
 use Rattle.block.specs.Bits.{sumBelow}
 
 pub sum-cong : (f g : ℕ → ℕ) (k : ℕ) → ((i : ℕ) → i < k → f i ≡ g i) → sumBelow f k ≡ sumBelow g k
@@ -39,3 +43,24 @@ sum-whole f from k h = let e : min from k ≡ k = omega arith in ap (sumBelow f)
 pub sum-digits : (f : ℕ → Bool) (k : ℕ) → sumBelow (λ i. digit (f i)) k ≤ k
 sum-digits f zero = omega arith
 sum-digits f (suc k) = omega (arith, sum-digits f k, digit-le (f k))
+
+-- of two functions, of the test for one number, and of nothing
+
+pub sum-plus : (f g : ℕ → ℕ) (k : ℕ) → sumBelow (λ i. f i + g i) k ≡ sumBelow f k + sumBelow g k
+sum-plus f g zero = refl
+sum-plus f g (suc k) = omega (arith, sum-plus f g k)
+
+pub sum-past : (x k : ℕ) → k ≤ x → sumBelow (λ i. digit (eqb i x)) k ≡ 0
+sum-past x zero h = refl
+sum-past x (suc k) h = rw (ne-eqb k x (λ e. omega arith)) (omega (arith, sum-past x k (omega arith)))
+
+pub sum-once : (x k : ℕ) → x < k → sumBelow (λ i. digit (eqb i x)) k ≡ 1
+sum-once x zero h = absurd (omega arith)
+sum-once x (suc k) h =
+    split (eqb x k)
+    (λ e. let d : x ≡ k = eqb→eq x k (to-T e) in omega (arith, sum-past x k (omega arith), ap digit (eq-eqb k x (sym d))))
+    (λ e. let l : x < k = below-other x k h e in omega (arith, sum-once x k l, ap digit (ne-eqb k x (λ q. omega arith))))
+
+pub sum-zero : (k : ℕ) → sumBelow (λ i. 0) k ≡ 0
+sum-zero zero = refl
+sum-zero (suc k) = omega (arith, sum-zero k)

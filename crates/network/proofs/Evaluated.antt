@@ -13,11 +13,12 @@ use Rattle.diagram.specs.Lists.{all, upTo}
 use Rattle.diagram.specs.Diagram.{edge, later, refers, nodeGood, wellFormed}
 use Rattle.diagram.proofs.Bools.{split, to-T, absurd-T, and-T, and-l, and-r}
 use Rattle.diagram.proofs.Numbers.{all-upTo-at, all-upTo-of}
+use Rattle.block.proofs.Elements.{all-first}
 use Rattle.table.specs.declared.State.{State}
 use Rattle.network.specs.Lent.{lentNode, lentDiagram}
 use Rattle.network.specs.inner.Cells.{lentCells}
 use Rattle.network.specs.Evaluate.{goodCells}
-use Rattle.network.proofs.Nodes.{lent-length, all-nodes, all-first}
+use Rattle.network.proofs.Nodes.{lent-length, all-nodes}
 use Rattle.network.proofs.Tested.{goodNode, ownRoot, later-constant, later-past, later-own, both-tests}
 
 -- an edge r of a cell at level p: 'a reference above 2 × count + 1, or an arrow not to a later place or constant' it is not

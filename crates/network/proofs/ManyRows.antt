@@ -5,7 +5,7 @@ use mathlib.Core.Bool.{Bool, true, false}
 use mathlib.Core.List.{List, [], _∷_, _++_, map}
 use Prim.Native.Nat.{ℕ, _+_, _≤_, _<_, _^_}
 use native.Mathlib.Omega.{arith}
-use borrow.Author.Tests.{le-leb, lt-leb, le-ltb, lt-ltb}
+use borrow.Author.Tests.{le-leb, lt-leb}
 use lib.Dec.{T, ltb, ltb→lt}
 use lib.ListN.{length, getD, drop, length-map, List·getD-append}
 use lib.Seq.{take-length}
@@ -13,8 +13,8 @@ use Rattle.diagram.specs.Lists.{all, upTo}
 use Rattle.diagram.specs.Bound.{mostOutputs}
 use Rattle.diagram.proofs.Bools.{to-T, absurd-T, and-l, and-r}
 use Rattle.diagram.proofs.Lists.{all-at, getD-map}
-use Rattle.diagram.proofs.Numbers.{all-upTo-more, all-upTo-fails}
 use Rattle.block.specs.Bits.{packed}
+use Rattle.block.proofs.Elements.{first-elements}
 use Rattle.table.specs.declared.Answer.{Answer}
 use Rattle.table.specs.declared.Answer.the-variants.{Done, ShortBuffer, ShortAnswers, NoNetwork, NoRow, BadCells}
 use Rattle.table.specs.declared.State.{State}
@@ -25,7 +25,6 @@ use Rattle.network.specs.Lent.{rootsSize}
 use Rattle.network.specs.inner.Cells.{outputAt}
 use Rattle.network.specs.Evaluate.{goodCells, evaluateAnswer}
 use Rattle.network.specs.Rows.{rowsAnswer, rowsAnswers, EachAlone}
-use Rattle.network.proofs.Nodes.{first-elements, all-first}
 use Rattle.network.proofs.Answered.{answer-done}
 
 -- two functions that agree wherever a test holds give the same list
@@ -33,28 +32,6 @@ map-where : (p : ℕ → Bool) (f g : ℕ → ℕ) (xs : List ℕ) → T (all p 
 map-where p f g [] t e = refl
 map-where p f g (x ∷ xs) t e =
     ap₂ (λ (y : ℕ) (ys : List ℕ). y ∷ ys) (e x (and-l (p x) (all p xs) t)) (map-where p f g xs (and-r (p x) (all p xs) t) e)
-
--- every row below 2ⁿ, one by one
-
-abbrev pub below : ℕ → List ℕ → ℕ → Bool
-below n rows i = ltb (getD rows i 0) (2 ^ n)
-
-module _ (n : ℕ) (rows : List ℕ) where
-  one-by-one : all (λ row. ltb row (2 ^ n)) rows ≡ all (below n rows) (upTo (length rows))
-  one-by-one =
-      ap (all (λ row. ltb row (2 ^ n))) (sym (take-length rows))
-      ∙ all-first (λ row. ltb row (2 ^ n)) (length rows) rows (omega arith)
-
-  pub row-beyond : (i x : ℕ) → i < length rows → x ≡ getD rows i 0 → 2 ^ n ≤ x → all (λ row. ltb row (2 ^ n)) rows ≡ false
-  row-beyond i x h e k =
-      one-by-one ∙ all-upTo-fails (below n rows) (length rows) i h (le-ltb (getD rows i 0) (2 ^ n) (omega (arith, e)))
-
-  pub row-below : (i x : ℕ) → all (below n rows) (upTo i) ≡ true → x ≡ getD rows i 0 → x < 2 ^ n
-      → all (below n rows) (upTo (i + 1)) ≡ true
-  row-below i x a e k = all-upTo-more (below n rows) i a (lt-ltb (getD rows i 0) (2 ^ n) (omega (arith, e)))
-
-  pub rows-below-all : (i : ℕ) → i ≡ length rows → all (below n rows) (upTo i) ≡ true → all (λ row. ltb row (2 ^ n)) rows ≡ true
-  rows-below-all i e a = one-by-one ∙ ap (λ (k : ℕ). all (below n rows) (upTo k)) (sym e) ∙ a
 
 map-twice : (f g : ℕ → ℕ) (xs : List ℕ) → map f (map g xs) ≡ map (λ x. f (g x)) xs
 map-twice f g [] = refl

@@ -1,37 +1,30 @@
 -- The bytes of a table's values or care, read as a stream again: each bit is the row's, and each byte is one.
 -- Assumes nothing.
-use mathlib.Core.Path.{_≡_, sym, ap, _∙_}
+use mathlib.Core.Path.{_≡_, _∙_}
 use mathlib.Core.Bool.{Bool}
 use mathlib.Core.List.{List}
-use Prim.Native.Nat.{ℕ, suc, _+_, _*_, _/_, _%_, _^_, _≤_, _<_}
+use Prim.Native.Nat.{ℕ, suc, _+_, _*_, _^_, _≤_, _<_}
 use native.Mathlib.Nat.{mul-le-mul-right}
 use native.Mathlib.Omega.{arith}
 use borrow.Author.Tests.{lt-ltb}
-use lib.Dec.{eqb}
 use lib.Pow.{high, low}
 use Rattle.diagram.specs.Fill.{Row}
 use Rattle.diagram.specs.Table.{Table}
 use Rattle.block.specs.Bits.{streamBit}
+use Rattle.block.proofs.Packed.{packed-lt}
 use Rattle.table.specs.Stream.{planeByte}
 use Rattle.table.specs.Calls.{planeSize, over}
-use Rattle.table.proofs.Over.{getD-over}
+use Rattle.table.proofs.PlaneBits.{packed-plane}
 use Rattle.network.specs.inner.Tabulate.{tableBit}
-use Rattle.network.proofs.Outputs.{outputs-below, output-bit}
 use Rattle.network.proofs.Tabulating.{byte-of-bits}
 
 module _ (field : Row → Bool) (t : Table) where
   pub plane-byte-small : (i : ℕ) → planeByte field t i < 256
-  plane-byte-small i = omega (arith, byte-of-bits field t i, outputs-below 8 (λ b. tableBit field t (8 * i + b)))
-
-  bit-of-byte : (x : ℕ) → eqb (planeByte field t (x / 8) / 2 ^ (x % 8) % 2) 1 ≡ tableBit field t x
-  bit-of-byte x =
-      let e : 8 * (x / 8) + x % 8 ≡ x = omega arith in
-      ap (λ (y : ℕ). eqb (y / 2 ^ (x % 8) % 2) 1) (sym (byte-of-bits field t (x / 8)))
-      ∙ output-bit 8 (λ b. tableBit field t (8 * (x / 8) + b)) (x % 8) (omega arith) ∙ ap (tableBit field t) e
+  plane-byte-small i = omega (arith, byte-of-bits field t i, packed-lt 8 (λ b. tableBit field t (8 * i + b)))
 
   stream-bit : (plane : List ℕ) (x : ℕ) → x < 8 * planeSize → streamBit (over (planeByte field t) planeSize plane) x ≡ tableBit field t x
-  unfolding streamBit
-  stream-bit plane x h = rw (getD-over (planeByte field t) planeSize plane (x / 8) 0 (omega arith)) (bit-of-byte x)
+  unfolding planeByte tableBit
+  stream-bit plane x h = packed-plane (tableBit field t) plane x h
 
   module _ (j r : ℕ) (known : j < t .m) (inside : r < 2 ^ t .n) where
     in-stream : j * 2 ^ t .n + r < t .m * 2 ^ t .n

@@ -7,7 +7,6 @@ use Prim.Native.Nat.{ℕ, zero, suc, _+_, _*_, _-_, _/_, _%_, _^_, _≤_, _<_}
 use native.Mathlib.Nat.{one-mul, div-lt-iff-lt-mul}
 use native.Mathlib.Omega.{arith}
 use borrow.Author.Tests.{lt-ltb, le-ltb, le-leb, lt-leb, leb-true, leb-false}
-use lib.Bits.{bitAnd, and-mask}
 use lib.Dec.{ltb, leb, lit<}
 use lib.ListN.{length, getD, take}
 use lib.Pow.{pow-pos, shl-exact}
@@ -18,7 +17,6 @@ use Rattle.diagram.specs.Table.{Table}
 use Rattle.diagram.specs.Diagram.{gives}
 use Rattle.diagram.specs.Order.{rowUnder}
 use Rattle.diagram.proofs.Bools.{split}
-use Rattle.diagram.proofs.Bits.{one-shifted}
 use Rattle.block.specs.Bits.{packed}
 use Rattle.table.specs.declared.Answer.{Answer}
 use Rattle.table.specs.declared.Answer.the-variants.{Done, ShortBuffer, NoNetwork, BadCells}
@@ -27,17 +25,12 @@ use Rattle.table.specs.Answer.{done}
 use Rattle.table.specs.State.{orderOf, stageOf, isNetwork}
 use Rattle.table.specs.Stream.{planeByte}
 use Rattle.table.specs.Calls.{planeSize, over}
-use Rattle.table.proofs.Over.{length-over}
 use Rattle.network.specs.Lent.{lentDiagram, rootsSize}
 use Rattle.network.specs.Evaluate.{goodCells}
 use Rattle.network.specs.Tabulate.{tabulateAnswer, lentTable, tabulateValues, tabulateCare}
 use Rattle.network.specs.inner.Cells.{lentCells}
 use Rattle.network.specs.inner.Tabulate.{tableBit, onesByte}
 use Rattle.network.proofs.Answered.{gives-roots}
-
--- a row's number by a mask
-pub row-masked : (n x : ℕ) → n < 64 → bitAnd x (1 * 2 ^ n % 2 ^ 64 - 1) ≡ x % 2 ^ n
-row-masked n x h = ap (λ (k : ℕ). bitAnd x (k - 1)) (one-shifted n h) ∙ and-mask x n
 
 -- bit x of the stream of values
 
@@ -105,14 +98,6 @@ pub ones-care : (s : State) (roots cells : List ℕ) (i : ℕ)
     → onesByte (s .m * 2 ^ s .n) i ≡ planeByte (λ x. x .care) (lentTable s roots cells) i
 unfolding planeByte onesByte
 ones-care s roots cells i = ap (packed 8) (λ k b. sym (and-true (ltb (8 * i + b) (s .m * 2 ^ s .n))) k)
-
--- a plane that is written over as far as byte i
-module _ (f : ℕ → ℕ) (l plane : List ℕ) (i : ℕ) (e : plane ≡ over f i l) (h : i ≤ planeSize) where
-  pub plane-length : planeSize ≤ length l → length plane ≡ length l
-  plane-length k = ap length e ∙ length-over f i l (omega arith)
-
-  pub plane-whole : planeSize ≤ i → plane ≡ over f planeSize l
-  plane-whole k = let d : i ≡ planeSize = omega arith in e ∙ ap (λ (n : ℕ). over f n l) d
 
 module _ (s : State) (roots cells values care : List ℕ) where
   -- the answer, and both planes after the call

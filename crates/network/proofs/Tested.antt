@@ -12,9 +12,10 @@ use lib.Seq.{length-take-le}
 use Rattle.diagram.specs.Lists.{all, upTo}
 use Rattle.diagram.specs.Diagram.{later, refers, nodeAt, nodeGood, wellFormed}
 use Rattle.diagram.proofs.Numbers.{all-upTo-fails, all-upTo-more}
+use Rattle.block.proofs.Elements.{all-first}
 use Rattle.network.specs.Lent.{lentNode, lentDiagram}
 use Rattle.network.specs.inner.Cells.{lentCells}
-use Rattle.network.proofs.Nodes.{lent-length, lent-at, all-nodes, all-first}
+use Rattle.network.proofs.Nodes.{lent-length, lent-at, all-nodes}
 
 -- cell i, from 0, and root j, by their tests
 

@@ -2,6 +2,7 @@
 use crate::ROOTS;
 use crate::cells::good_cells;
 use crate::follow::outputs;
+use block::numbers::all_below;
 use block::numbers::lent_number;
 use diagram::VARIABLES;
 use table::Answer;
@@ -10,31 +11,12 @@ use table::valid::holds_network;
 ghost use mathlib.Core.Path.{_≡_};
 ghost use mathlib.Core.Bool.{true};
 ghost use mathlib.Core.List.{map, _++_};
-ghost use Prim.Native.Nat.{_≤_, _^_};
-ghost use lib.Dec.{ltb};
+ghost use Prim.Native.Nat.{_≤_};
 ghost use lib.ListN.{length, drop};
-ghost use Rattle.diagram.specs.Lists.{all};
-ghost use Rattle.diagram.specs.Bound.{mostVariables};
 ghost use Rattle.block.specs.Bits.{packed};
 ghost use Rattle.table.specs.Answer.{done};
 ghost use Rattle.network.specs.inner.Cells.{Followable, Rooted, outputAt};
 ghost use Rattle.network.specs.Rows.{rowsAnswer, rowsAnswers, EachAlone};
-
-// Whether every row is below 2ⁿ.
-fn rows_below(rows: &[u16], n: usize) -> bool
-    requires { ⌜ n ≤ mostVariables ⌝ }
-    ensures { λ r. ⌜ r ≡ all (λ row. ltb row (2 ^ n)) (now (rows .entry)) ⌝ }
-{
-    let end: usize = 1 << n;
-    let mut j: usize = 0;
-    while j < rows.len() {
-        if end <= lent_number(rows, j) {
-            return false;
-        }
-        j += 1;
-    }
-    true
-}
 
 // Writes what each row gives.
 fn write_answers(
@@ -88,7 +70,7 @@ pub fn evaluate_rows(
         return Answer::NoNetwork;
     }
     let n = state.n;
-    if !rows_below(rows, n) {
+    if !all_below(rows, 1 << n) {
         return Answer::NoRow;
     }
     if !good_cells(state, roots, cells) {

@@ -1,18 +1,15 @@
--- Bytes gathered one bit at a time, and the bytes that are gathered under an order: those of the reordered table.
+-- The bytes that are gathered under an order: those of the reordered table.
 -- Assumes nothing.
 use mathlib.Core.Path.{_≡_, refl, sym, ap, ap₂, _∙_}
-use mathlib.Core.Bool.{Bool, true, false, cond, _&&_}
+use mathlib.Core.Bool.{Bool, true, cond, _&&_}
 use mathlib.Core.List.{List, _++_, map}
-use Prim.Native.Nat.{ℕ, zero, suc, _+_, _*_, _%_, _^_, _≤_, _<_, min, zero-le}
-use native.Mathlib.Numerals.{add-one}
+use Prim.Native.Nat.{ℕ, _+_, _*_, _^_, _≤_, _<_, min, zero-le}
 use native.Mathlib.Omega.{arith}
 use borrow.Author.Tests.{lt-ltb, le-ltb, lt-leb, le-leb}
-use lib.Bits.{bitOr, or-shifted-r}
-use lib.Dec.{eqb, ltb, lit<}
+use lib.Dec.{eqb, ltb}
 use lib.ListN.{length, getD, take, drop, replicate, length-append, length-replicate, getD-replicate}
 use lib.Seq.{ext-getD, take-at}
-use lib.Pow.{shl-exact}
-use Rattle.diagram.specs.Lists.{digit, index, upTo, bit}
+use Rattle.diagram.specs.Lists.{index, upTo, bit}
 use Rattle.diagram.specs.Bound.{mostVariables, mostOutputs}
 use Rattle.diagram.specs.Order.{behind}
 use Rattle.diagram.specs.Tree.{draw}
@@ -29,28 +26,6 @@ use Rattle.reorder.specs.Gather.{rowMap, gatheredPlane, gatheredPart, ou
 use Rattle.reorder.specs.inner.Rows.{variableLevels, rowOf}
 use Rattle.reorder.proofs.DrawnBytes.{gathered-cong, draw-bytes}
 use Rattle.reorder.proofs.Shifts.{rows-room, byte-within}
-
--- one bit more
-
-pub gathered-lt : (k : ℕ) (f : ℕ → Bool) → packed k f < 2 ^ k
-gathered-lt zero f = omega arith
-gathered-lt (suc k) f = step (f k) (gathered-lt k f)
-  where
-    step : (b : Bool) → packed k f < 2 ^ k → packed k f + digit b * 2 ^ k < 2 ^ suc k
-    step true h = omega arith
-    step false h = omega arith
-
-module _ (k : ℕ) (f : ℕ → Bool) (byte : ℕ) (e : byte ≡ packed k f) where
-  pub bit-set : k < 8 → f k ≡ true → bitOr byte (1 * 2 ^ k % 256) ≡ packed (k + 1) f
-  bit-set h t =
-      let s : 1 * 2 ^ k % 256 ≡ 1 * 2 ^ k = shl-exact {a = 1} 1 k 8 (lit< tt) (omega arith) in
-      let q : packed (k + 1) f ≡ packed k f + 1 * 2 ^ k = ap (λ j. packed j f) (add-one k) ∙ ap (λ b. packed k f + digit b * 2 ^ k) t in
-      ap₂ bitOr e s ∙ or-shifted-r 1 k (packed k f) (gathered-lt k f) ∙ omega arith
-
-  pub bit-clear : f k ≡ false → byte ≡ packed (k + 1) f
-  bit-clear t =
-      let q : packed (k + 1) f ≡ packed k f + 0 * 2 ^ k = ap (λ j. packed j f) (add-one k) ∙ ap (λ b. packed k f + digit b * 2 ^ k) t in
-      omega arith
 
 module _ (n : ℕ) (order : List ℕ) (fits : n ≤ mostVariables) where
   levels-index : (v : ℕ) → v < n → getD (variableLevels n order) v 0 ≡ index eqb v (take n order)

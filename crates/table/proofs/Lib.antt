@@ -9,6 +9,7 @@ pub mod LoadCall
 pub mod Loaded
 pub mod Orders
 pub mod Over
+pub mod PlaneBits
 pub mod Reader
 pub mod Swapped
 pub mod VariableLevels

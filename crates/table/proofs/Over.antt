@@ -2,13 +2,13 @@
 -- Assumes nothing.
 use mathlib.Core.Path.{_≡_, refl, sym, ap, ap₂, _∙_}
 use mathlib.Core.List.{List, [], _∷_, _++_, map, map-append}
-use Prim.Native.Nat.{ℕ, suc, _+_, _≤_, _<_}
+use Prim.Native.Nat.{ℕ, suc, _+_, _-_, _≤_, _<_}
 use native.Mathlib.Numerals.{add-one}
 use native.Mathlib.Omega.{arith}
 use lib.ListN.{length, getD, drop, set, length-append, length-drop, List·getD-append}
-use lib.Seq.{drop-cons, append-snoc, set-at}
+use lib.Seq.{drop-cons, append-snoc, set-at, drop-at, getD-append-add, getD-drop}
 use Rattle.diagram.specs.Lists.{upTo}
-use Rattle.diagram.proofs.UpTo.{length-map-upTo, getD-map-upTo}
+use Rattle.diagram.proofs.UpTo.{length-map-upTo, getD-map-upTo, map-upTo-cong}
 use Rattle.table.specs.Calls.{planeSize, over}
 
 module _ {A : Type 0} (f : ℕ → A) where
@@ -30,7 +30,32 @@ module _ {A : Type 0} (f : ℕ → A) where
   pub getD-over : (k : ℕ) (l : List A) (i : ℕ) (d : A) → i < k → getD (over f k l) i d ≡ f i
   getD-over k l i d h = List·getD-append (map f (upTo k)) (drop k l) d i (omega (arith, length-map-upTo f k)) ∙ getD-map-upTo f k i d h
 
+  pub getD-over-past : (k : ℕ) (l : List A) (i : ℕ) (d : A) → k ≤ i → getD (over f k l) i d ≡ getD l i d
+  getD-over-past k l i d h =
+      let e : i ≡ length (map f (upTo k)) + (i - k) = omega (arith, length-map-upTo f k) in
+      ap (λ (j : ℕ). getD (over f k l) j d) e
+      ∙ getD-append-add (map f (upTo k)) (drop k l) (i - k) d
+      ∙ getD-drop k l (i - k) d
+      ∙ ap (λ (j : ℕ). getD l j d) (omega arith)
+
+-- twice is as the second time, and by functions that agree
+
+module _ {A : Type 0} (f g : ℕ → A) (k : ℕ) (l : List A) where
+  pub over-twice : over f k (over g k l) ≡ over f k l
+  over-twice = ap (λ (m : List A). map f (upTo k) ++ m) (drop-at (map g (upTo k)) (drop k l) k (length-map-upTo g k))
+
+  pub over-cong : ((i : ℕ) → i < k → f i ≡ g i) → over f k l ≡ over g k l
+  over-cong e = ap (λ (m : List A). m ++ drop k l) (map-upTo-cong k f g e)
+
 -- the bytes of a whole plane
 pub plane-size : planeSize ≡ 2048
 unfolding planeSize
 plane-size = refl
+
+-- a plane that is written over as far as byte i
+module _ (f : ℕ → ℕ) (l plane : List ℕ) (i : ℕ) (e : plane ≡ over f i l) (h : i ≤ planeSize) where
+  pub plane-length : planeSize ≤ length l → length plane ≡ length l
+  plane-length k = ap length e ∙ length-over f i l (omega arith)
+
+  pub plane-whole : planeSize ≤ i → plane ≡ over f planeSize l
+  plane-whole k = let d : i ≡ planeSize = omega arith in e ∙ ap (λ (n : ℕ). over f n l) d

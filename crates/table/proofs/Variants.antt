@@ -13,38 +13,44 @@ use denote.Enum.Declared.{tagOf}
 use Rattle.table.specs.declared.Answer.{Answer}
 use Rattle.table.specs.declared.Answer.the-variants.{Done, BadLength, BadCheck, BadKind, BadInputs, BadOutputs, BadOrder}
 use Rattle.table.specs.declared.Answer.the-variants.{BadContent, NoRow, NoSuch, ShortBuffer, NoTable, NoNetwork, TooSmall}
-use Rattle.table.specs.declared.Answer.the-variants.{BadCells, ShortAnswers, NotCanonical}
+use Rattle.table.specs.declared.Answer.the-variants.{BadCells, ShortAnswers, NotCanonical, TooManyRecords}
 use Rattle.table.proofs.Answer.{the-type}
 use Rattle.table.specs.Answer.{number, value, done}
 
--- a success, the variant 0; or a refusal, any other, whose number has one or two digits
+-- a success, the variant 0; or a refusal, any other, whose number has one or two digits and whose value is 0 but for 23, the variant 13
 record Refusal (a : Answer) : Type 0 where
   tagged : tagOf the-type a ≡ 0 → ⊥
   numbered : 0 < number a
   few : number a < 100
+  plain : (tagOf the-type a ≡ 13 → ⊥) → value a ≡ 0
 
 by-variant : (a : Answer) → (Done (value a) ≡ a) ⊎ Refusal a
 by-variant (Done v) = inl refl
-by-variant BadLength = inr record { tagged = λ e. omega arith; numbered = omega arith; few = omega arith }
-by-variant BadCheck = inr record { tagged = λ e. omega arith; numbered = omega arith; few = omega arith }
-by-variant BadKind = inr record { tagged = λ e. omega arith; numbered = omega arith; few = omega arith }
-by-variant BadInputs = inr record { tagged = λ e. omega arith; numbered = omega arith; few = omega arith }
-by-variant BadOutputs = inr record { tagged = λ e. omega arith; numbered = omega arith; few = omega arith }
-by-variant BadOrder = inr record { tagged = λ e. omega arith; numbered = omega arith; few = omega arith }
-by-variant BadContent = inr record { tagged = λ e. omega arith; numbered = omega arith; few = omega arith }
-by-variant NoRow = inr record { tagged = λ e. omega arith; numbered = omega arith; few = omega arith }
-by-variant NoSuch = inr record { tagged = λ e. omega arith; numbered = omega arith; few = omega arith }
-by-variant ShortBuffer = inr record { tagged = λ e. omega arith; numbered = omega arith; few = omega arith }
-by-variant NoTable = inr record { tagged = λ e. omega arith; numbered = omega arith; few = omega arith }
-by-variant NoNetwork = inr record { tagged = λ e. omega arith; numbered = omega arith; few = omega arith }
-by-variant (TooSmall w) = inr record { tagged = λ e. omega arith; numbered = omega arith; few = omega arith }
-by-variant BadCells = inr record { tagged = λ e. omega arith; numbered = omega arith; few = omega arith }
-by-variant ShortAnswers = inr record { tagged = λ e. omega arith; numbered = omega arith; few = omega arith }
-by-variant NotCanonical = inr record { tagged = λ e. omega arith; numbered = omega arith; few = omega arith }
+by-variant BadLength = inr record { tagged = λ e. omega arith; numbered = omega arith; few = omega arith; plain = λ _. refl }
+by-variant BadCheck = inr record { tagged = λ e. omega arith; numbered = omega arith; few = omega arith; plain = λ _. refl }
+by-variant BadKind = inr record { tagged = λ e. omega arith; numbered = omega arith; few = omega arith; plain = λ _. refl }
+by-variant BadInputs = inr record { tagged = λ e. omega arith; numbered = omega arith; few = omega arith; plain = λ _. refl }
+by-variant BadOutputs = inr record { tagged = λ e. omega arith; numbered = omega arith; few = omega arith; plain = λ _. refl }
+by-variant BadOrder = inr record { tagged = λ e. omega arith; numbered = omega arith; few = omega arith; plain = λ _. refl }
+by-variant BadContent = inr record { tagged = λ e. omega arith; numbered = omega arith; few = omega arith; plain = λ _. refl }
+by-variant NoRow = inr record { tagged = λ e. omega arith; numbered = omega arith; few = omega arith; plain = λ _. refl }
+by-variant NoSuch = inr record { tagged = λ e. omega arith; numbered = omega arith; few = omega arith; plain = λ _. refl }
+by-variant ShortBuffer = inr record { tagged = λ e. omega arith; numbered = omega arith; few = omega arith; plain = λ _. refl }
+by-variant NoTable = inr record { tagged = λ e. omega arith; numbered = omega arith; few = omega arith; plain = λ _. refl }
+by-variant NoNetwork = inr record { tagged = λ e. omega arith; numbered = omega arith; few = omega arith; plain = λ _. refl }
+by-variant (TooSmall w) = inr record { tagged = λ e. omega arith; numbered = omega arith; few = omega arith; plain = λ h. absurd (h refl) }
+by-variant BadCells = inr record { tagged = λ e. omega arith; numbered = omega arith; few = omega arith; plain = λ _. refl }
+by-variant ShortAnswers = inr record { tagged = λ e. omega arith; numbered = omega arith; few = omega arith; plain = λ _. refl }
+by-variant NotCanonical = inr record { tagged = λ e. omega arith; numbered = omega arith; few = omega arith; plain = λ _. refl }
+by-variant TooManyRecords = inr record { tagged = λ e. omega arith; numbered = omega arith; few = omega arith; plain = λ _. refl }
 
 -- the variants other than a success, by their tags
 abbrev pub refusals : List ℕ
-refusals = 1 ∷ 2 ∷ 3 ∷ 4 ∷ 5 ∷ 6 ∷ 7 ∷ 8 ∷ 9 ∷ 10 ∷ 11 ∷ 12 ∷ 13 ∷ 14 ∷ 15 ∷ 16 ∷ []
+refusals = 1 ∷ 2 ∷ 3 ∷ 4 ∷ 5 ∷ 6 ∷ 7 ∷ 8 ∷ 9 ∷ 10 ∷ 11 ∷ 12 ∷ 13 ∷ 14 ∷ 15 ∷ 16 ∷ 17 ∷ []
+
+-- those without a value
+abbrev pub plain-refusals : List ℕ
+plain-refusals = 1 ∷ 2 ∷ 3 ∷ 4 ∷ 5 ∷ 6 ∷ 7 ∷ 8 ∷ 9 ∷ 10 ∷ 11 ∷ 12 ∷ 14 ∷ 15 ∷ 16 ∷ 17 ∷ []
 
 pub number-few : (a : Answer) → number a < 100
 number-few a = ⊎-elim (λ e. omega (arith, sym (ap number e))) (λ r. r .few) (by-variant a)
@@ -64,3 +70,9 @@ is-other a o =
 -- a success is none of the others
 pub never-other {ℓ} : {X : Type ℓ} (a : Answer) (v : ℕ) → a ≡ Done v → OneOf refusals (tagOf the-type a) → X
 never-other a v e k = absurd (miss refusals 0 tt (subst (λ (b : Answer). OneOf refusals (tagOf the-type b)) e k))
+
+-- a refusal other than 23 has the value 0
+pub plain-value : (a : Answer) → OneOf plain-refusals (tagOf the-type a) → 0 ≡ value a
+plain-value a o =
+    ⊎-elim (λ d. absurd (miss plain-refusals 0 tt (subst (λ (b : Answer). OneOf plain-refusals (tagOf the-type b)) (sym d) o)))
+    (λ r. sym (r .plain (λ e. miss plain-refusals 13 tt (subst (OneOf plain-refusals) e o)))) (by-variant a)

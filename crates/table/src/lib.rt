@@ -47,6 +47,7 @@ pub enum Answer {
     BadCells,
     ShortAnswers,
     NotCanonical,
+    TooManyRecords,
 }
 
 // An answer, and the state after the call.

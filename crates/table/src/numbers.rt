@@ -35,6 +35,7 @@ pub fn number_of(answer: Answer) -> usize
         Answer::BadCells => 24,
         Answer::ShortAnswers => 31,
         Answer::NotCanonical => 32,
+        Answer::TooManyRecords => 33,
     }
 }
 
@@ -45,20 +46,6 @@ pub fn value_of(answer: Answer) -> usize
     match answer {
         Answer::Done(found) => found,
         Answer::TooSmall(wanted) => wanted,
-        Answer::BadLength => 0,
-        Answer::BadCheck => 0,
-        Answer::BadKind => 0,
-        Answer::BadInputs => 0,
-        Answer::BadOutputs => 0,
-        Answer::BadOrder => 0,
-        Answer::BadContent => 0,
-        Answer::NoRow => 0,
-        Answer::NoSuch => 0,
-        Answer::ShortBuffer => 0,
-        Answer::NoTable => 0,
-        Answer::NoNetwork => 0,
-        Answer::BadCells => 0,
-        Answer::ShortAnswers => 0,
-        Answer::NotCanonical => 0,
+        _ => 0,
     }
 }

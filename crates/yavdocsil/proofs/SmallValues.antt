@@ -17,6 +17,7 @@ use Rattle.diagram.specs.Table.{cost}
 use Rattle.diagram.proofs.Bools.{split, to-T}
 use Rattle.diagram.proofs.Pass.{pass-within}
 use Rattle.block.specs.Bits.{packed, streamBit}
+use Rattle.block.proofs.Packed.{packed-lt}
 use Rattle.block.proofs.Sums.{sum-digits}
 use Rattle.block.specs.Block.{blockSize, contentAt, wholeBlocks, byte, goodCheck, goodNumber}
 use Rattle.block.specs.Block.{unusedBetween, unusedZero, unusedBitsZero}
@@ -40,7 +41,6 @@ use Rattle.network.specs.Evaluate.{goodCells, rowOutputs, evaluateAnswer}
 use Rattle.network.specs.Rows.{rowsAnswer}
 use Rattle.network.proofs.HeldRead.{few-nodes, few-wanted}
 use Rattle.network.proofs.Answered.{network-held}
-use Rattle.network.proofs.Outputs.{outputs-below}
 use Rattle.canonical.specs.Canonical.{canonicalAnswer}
 use Rattle.cellfile.specs.File.{countAt, rootsAt, fileCount, fileDiagram, cellBlocks, carriedNumbers}
 use Rattle.cellfile.specs.File.{unusedHeading, networkHeading, cellsBlock, cellsAnswer, networkFileAnswer}
@@ -199,7 +199,7 @@ module _ (s : State) where
   outputs-small : isNetwork (stageOf s) ≡ true → (f : ℕ → Bool) → packed (s .m) f < valueLimit
   outputs-small e f =
       let few : s .m ≤ mostOutputs = few-outputs s (network-held (stageOf s) (to-T e)) in
-      omega (arith, outputs-below (s .m) f, pow-mono {i = s .m} {j = mostOutputs} few)
+      omega (arith, packed-lt (s .m) f, pow-mono {i = s .m} {j = mostOutputs} few)
 
   pub evaluate-small : (row : ℕ) (roots cells : List ℕ) → Small (evaluateAnswer s row roots cells)
   unfolding evaluateAnswer rowOutputs

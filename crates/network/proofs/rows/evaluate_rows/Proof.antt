@@ -1,13 +1,15 @@
 -- `network::rows::evaluate_rows` meets its contract: each return by the tests that led there.
 -- Assumes nothing.
 use borrow.Author.Needs.{needs}
-use mathlib.Core.Path.{_≡_, sym, _∙_}
+use mathlib.Core.Path.{_≡_, sym, ap, _∙_}
 use mathlib.Core.Bool.{true}
-use Prim.Native.Nat.{_^_}
+use Prim.Native.Nat.{ℕ, _*_, _%_, _^_}
+use native.Mathlib.Omega.{arith}
 use borrow.Author.Tests.{not-true, not-false}
 use denote.Ref.{now}
 use lib.Dec.{ltb}
 use Rattle.diagram.specs.Lists.{all}
+use Rattle.diagram.proofs.Bits.{one-shifted}
 use Rattle.table.specs.State.{stageOf, isNetwork}
 use Rattle.network.specs.Evaluate.{goodCells}
 use Rattle.network.proofs.Answered.{inputs-few, followable, rooted}
@@ -19,12 +21,26 @@ use Rattle.network.proofs.rows.evaluate_rows.Tie as tie
 held : (c : tie.Else3) → isNetwork (stageOf (c .before .before .before .before .before .before .before .before .args .state)) ≡ true
 held c = let h = c .before .holds-network in sym (h .ensures) ∙ not-false (h .result) (c .if3 .left)
 
+-- the number of rows
+rows-end : (c : tie.Else3)
+    → 1 * 2 ^ c .before .before .before .before .before .before .before .before .args .state .n % 2 ^ 64
+    ≡ 2 ^ c .before .before .before .before .before .before .before .before .args .state .n
+rows-end c =
+    let t = c .before .before in
+    let a = t .before .before .before .before .before .before .args in
+    let few = inputs-few (a .state) (now (a .roots)) (now (a .cells)) (t .before .if1 .left) (held c) in
+    one-shifted (a .state .n) (omega (arith, few))
+
 -- past the test of 8
 known : (c : tie.Else4)
     → all (λ row. ltb row (2 ^ c .before .before .before .before .before .before .before .before .before .before .args .state .n))
     (now (c .before .before .before .before .before .before .before .before .before .before .args .rows))
     ≡ true
-known c = let r = c .before .rows-below in sym (r .ensures) ∙ not-false (r .result) (c .if4 .left)
+known c =
+    let r = c .before .all-below in
+    let a = c .before .before .before .before .before .before .before .before .before .before .args in
+    ap (λ (k : ℕ). all (λ row. ltb row k) (now (a .rows))) (sym (rows-end (c .before .before)))
+    ∙ sym (r .ensures) ∙ not-false (r .result) (c .if4 .left)
 
 -- past the test of 24
 good : (c : tie.Else5)
@@ -55,21 +71,24 @@ returns-3 c =
     rows-no-network (a .state) (now (a .rows)) (now (a .answers)) (now (a .roots)) (now (a .cells)) (t .before .if1 .left) (t .if2 .left)
     (sym (h .ensures) ∙ not-true (h .result) (c .if3 .taken))
 
-rows-below-requires : tie.Need-rows-below-requires
-rows-below-requires c κs =
+shl-all-below : tie.Need-shl-all-below
+shl-all-below c =
     let t = c .before .before in
     let a = t .before .before .before .before .before .before .args in
-    inputs-few (a .state) (now (a .roots)) (now (a .cells)) (t .before .if1 .left) (held c)
+    omega (arith, inputs-few (a .state) (now (a .roots)) (now (a .cells)) (t .before .if1 .left) (held c))
+
+all-below-requires : tie.Need-all-below-requires
+all-below-requires c κs = search needs
 
 returns-4 : tie.Need-returns-4
 returns-4 c =
     let q = c .before .before in
     let t = q .before .before in
     let a = t .before .before .before .before .before .before .args in
-    let r = c .before .rows-below in
+    let r = c .before .all-below in
     rows-no-row (a .state) (now (a .rows)) (now (a .answers)) (now (a .roots)) (now (a .cells))
     (t .before .if1 .left) (t .if2 .left) (held q)
-    (sym (r .ensures) ∙ not-true (r .result) (c .if4 .taken))
+    (ap (λ (k : ℕ). all (λ row. ltb row k) (now (a .rows))) (sym (rows-end q)) ∙ sym (r .ensures) ∙ not-true (r .result) (c .if4 .taken))
 
 good-cells-requires : tie.Need-good-cells-requires
 good-cells-requires c κs = search needs
@@ -121,7 +140,8 @@ evaluate-rows-spec =
     returns-2
     holds-network-requires
     returns-3
-    rows-below-requires
+    shl-all-below
+    all-below-requires
     returns-4
     good-cells-requires
     returns-5

@@ -9,10 +9,10 @@ use lib.ListN.{length, getD}
 use lib.Pow.{pow-mono}
 use Rattle.diagram.specs.Bound.{mostOutputs}
 use Rattle.block.specs.Bits.{packed}
+use Rattle.block.proofs.Packed.{packed-lt}
 use Rattle.table.specs.Calls.{over}
 use Rattle.table.proofs.Over.{over-next, length-over}
 use Rattle.network.specs.inner.Cells.{outputAt}
-use Rattle.network.proofs.Outputs.{outputs-below}
 use Rattle.network.proofs.ManyRows.{answers-all}
 use Rattle.network.proofs.rows.write_answers.Statement.{statement}
 use Rattle.network.proofs.rows.write_answers.Tie as tie
@@ -47,7 +47,7 @@ cast-answers c =
     omega (
       arith,
       c .outputs .ensures,
-      outputs-below (a .m) f,
+      packed-lt (a .m) f,
       pow-mono {i = a .m} {j = mostOutputs} (b .pre .0 .1 .few),
     )
 

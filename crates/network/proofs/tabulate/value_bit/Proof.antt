@@ -7,10 +7,11 @@ use native.Mathlib.Omega.{arith}
 use denote.Ref.{now}
 use lib.Pow.{pow-pos}
 use Rattle.diagram.proofs.Bits.{one-shifted}
+use Rattle.block.proofs.StreamBits.{row-masked}
 use Rattle.table.proofs.Answers.{shifted-out}
 use Rattle.network.specs.inner.Cells.{lentCells}
 use Rattle.network.proofs.Outputs.{root-own}
-use Rattle.network.proofs.Tabulating.{row-masked, bit-past, output-of, bit-followed}
+use Rattle.network.proofs.Tabulating.{bit-past, output-of, bit-followed}
 use Rattle.network.proofs.tabulate.value_bit.Statement.{statement}
 use Rattle.network.proofs.tabulate.value_bit.Tie as tie
 

@@ -8,8 +8,8 @@ use Prim.Native.Nat.{ℕ, _+_, _*_, _≤_, _-_}
 use native.Mathlib.Omega.{arith}
 use denote.Ref.{now}
 use Rattle.block.specs.Bits.{packed}
+use Rattle.block.proofs.Packed.{bit-set, bit-clear}
 use Rattle.table.proofs.Over.{plane-size}
-use Rattle.reorder.proofs.Gathered.{bit-set, bit-clear}
 use Rattle.network.specs.Tabulate.{lentTable}
 use Rattle.network.specs.inner.Tabulate.{tableBit}
 use Rattle.network.proofs.Tabulating.{byte-of-bits}

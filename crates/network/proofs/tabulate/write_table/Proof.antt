@@ -7,10 +7,10 @@ use denote.Ref.{now}
 use Rattle.table.specs.Stream.{planeByte}
 use Rattle.table.specs.Calls.{planeSize, over}
 use Rattle.table.proofs.Answers.{stream-small, shifted-out}
-use Rattle.table.proofs.Over.{over-next, plane-size}
+use Rattle.table.proofs.Over.{over-next, plane-size, plane-length, plane-whole}
 use Rattle.network.specs.Tabulate.{lentTable}
 use Rattle.network.specs.inner.Tabulate.{onesByte}
-use Rattle.network.proofs.Tabulating.{ones-care, plane-length, plane-whole}
+use Rattle.network.proofs.Tabulating.{ones-care}
 use Rattle.network.proofs.tabulate.write_table.Statement.{statement}
 use Rattle.network.proofs.tabulate.write_table.Tie as tie
 

@@ -10,7 +10,7 @@ use native.Mathlib.Omega.{arith}
 use lib.ListN.{getD}
 use Rattle.block.specs.Bits.{streamBit}
 use Rattle.reorder.specs.Gather.{gatheredByte}
-use Rattle.reorder.proofs.Gathered.{bit-set, bit-clear}
+use Rattle.block.proofs.Packed.{bit-set, bit-clear}
 use Rattle.reorder.proofs.gather.gather_byte.Statement.{statement}
 use Rattle.reorder.proofs.gather.gather_byte.Tie as tie
 

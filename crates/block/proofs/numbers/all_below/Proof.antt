@@ -1,4 +1,4 @@
--- `network::rows::rows_below` meets its contract: the rows before row j are below 2ⁿ.
+-- `block::numbers::all_below` meets its contract: the numbers before number j are below the limit.
 -- Assumes nothing.
 use borrow.Author.Needs.{needs}
 use mathlib.Core.Path.{_≡_, refl, sym}
@@ -8,19 +8,15 @@ use native.Mathlib.Omega.{arith}
 use denote.Ref.{now}
 use lib.ListN.{length}
 use Rattle.diagram.specs.Lists.{all, upTo}
-use Rattle.diagram.proofs.Bits.{one-shifted}
-use Rattle.network.proofs.ManyRows.{below, row-beyond, row-below, rows-below-all}
-use Rattle.network.proofs.rows.rows_below.Statement.{statement}
-use Rattle.network.proofs.rows.rows_below.Tie as tie
+use Rattle.block.proofs.Elements.{below, one-beyond, one-below, every-below}
+use Rattle.block.proofs.numbers.all_below.Statement.{statement}
+use Rattle.block.proofs.numbers.all_below.Tie as tie
 
 abbrev Inv-loop : tie.InvT-loop
-Inv-loop rows n end j₀ j = (j ≤ length rows) × (all (below n rows) (upTo j) ≡ true)
+Inv-loop numbers limit j₀ j = (j ≤ length numbers) × (all (below limit numbers) (upTo j) ≡ true)
 
 abbrev μ-loop : tie.MeasureT-loop
-μ-loop rows n end j₀ j = length rows - j
-
-shl-end : tie.Need-shl-end Inv-loop μ-loop
-shl-end c = search needs
+μ-loop numbers limit j₀ j = length numbers - j
 
 loop-holds : tie.Need-loop-holds Inv-loop μ-loop
 loop-holds c = (omega arith, refl)
@@ -33,9 +29,7 @@ returns c =
     let g = c .before .lent-number in
     let l = c .before .before .before .loop in
     let a = c .before .before .before .before .before .args in
-    sym
-    (row-beyond (a .n) (now (a .rows)) (l .j) (g .result) (c .before .before .loop-test .taken) (g .ensures .0)
-    (omega (arith, c .if1 .taken, one-shifted (a .n) (omega arith))))
+    sym (one-beyond (a .limit) (now (a .numbers)) (l .j) (g .result) (c .before .before .loop-test .taken) (g .ensures .0) (c .if1 .taken))
 
 add-j : tie.Need-add-j Inv-loop μ-loop
 add-j c = omega arith
@@ -49,23 +43,21 @@ loop-again c =
     let l = c .before .before .before .loop in
     let a = c .before .before .before .before .before .args in (
       omega (arith, c .before .before .loop-test .taken),
-      row-below (a .n) (now (a .rows)) (l .j) (g .result) (l .inv .1) (g .ensures .0)
-          (omega (arith, c .if1 .left, one-shifted (a .n) (omega arith))),
+      one-below (a .limit) (now (a .numbers)) (l .j) (g .result) (l .inv .1) (g .ensures .0) (c .if1 .left),
     )
 
 returns-2 : tie.Need-returns-2 Inv-loop μ-loop
 returns-2 c =
     let l = c .before .loop in
     let a = c .before .before .before .args in
-    sym (rows-below-all (a .n) (now (a .rows)) (l .j) (omega arith) (l .inv .1))
+    sym (every-below (a .limit) (now (a .numbers)) (l .j) (omega arith) (l .inv .1))
 
-pub rows-below-spec : {M : Type 1} → statement M
-rows-below-spec =
+pub all-below-spec : {M : Type 1} → statement M
+all-below-spec =
     tie.close
     (tie.spec
     Inv-loop
     μ-loop
-    shl-end
     loop-holds
     lent-number-requires
     returns
