@@ -52,7 +52,8 @@ enum {
     YAV_TOO_SMALL = 23,     /* the value is the cells wanted */
     YAV_BAD_CELLS = 24,
     YAV_SHORT_ANSWERS = 31, /* fewer answers lent than rows */
-    YAV_NOT_CANONICAL = 32  /* no build leaves such cells and roots, whatever the table */
+    YAV_NOT_CANONICAL = 32, /* no build leaves such cells and roots, whatever the table */
+    YAV_TOO_MANY_RECORDS = 33
 };
 
 /* An answer is its number × 2³² + its value. */
@@ -96,6 +97,13 @@ uint64_t yav_write_cells(const uint64_t *state, size_t state_words, const uint16
 uint64_t yav_read_cells(uint64_t *state, size_t state_words, const uint8_t *file, size_t file_bytes,
                         uint8_t *values, size_t values_bytes, uint8_t *care, size_t care_bytes, uint8_t *work, size_t work_bytes,
                         uint16_t *roots, size_t roots_elements, uint16_t *cells, size_t cells_elements);
+
+/* Logs the rows that a head saw. Each of the 2^n counts rises by the times its row is in the list; then a row is cared in every output if
+ * its count is at least `least`, and else free. The caller zeroes the counts before the first log, and may log as often as it likes: with
+ * an empty list only the care is made anew. A row out of range, or more than 4,294,967,295 records in all, counts nothing.
+ * Numbers 10, 21, 10 for fewer than 2^n counts, 8, 33. */
+uint64_t yav_log_rows(uint64_t *state, size_t state_words, const uint16_t *rows, size_t rows_elements, uint32_t least,
+                      uint32_t *counts, size_t counts_elements, uint8_t *care, size_t care_bytes);
 
 /* Exchanges the inputs at `place` and the place below it. Numbers 10, 21, 9. */
 uint64_t yav_swap(uint64_t *state, size_t state_words, uint64_t place);

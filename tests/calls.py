@@ -3,7 +3,7 @@
 A chunk is made from the seed and its number alone, so that one can be run
 again by itself. The first chunks are the fixed ones, the others are random
 scenes: single calls, chains of calls on the same state and buffers, files,
-boards, diagrams and larger tables.
+boards, diagrams, logs and larger tables.
 
 A chunk is a generator. What a call is lent is changed by that call before the
 next one is made, so that a chain meets the leftovers of its own calls.
@@ -19,6 +19,7 @@ import files
 import fixed_calls
 import lending
 import library
+import logs
 import networks
 import reference
 import refusals
@@ -201,6 +202,38 @@ def diagram_calls(rng):
         yield Call("write_cells", {}, lent, "a diagram with a breach")
 
 
+# Logs of rows.
+
+
+def logs_in_turn(rng):
+    """Logs on the same counts, some of no row, and between them what goes by their care."""
+    n, m = small_size(rng)
+    lent = lending.lent_for(rng, n, m)
+    for _ in range(rng.randint(3, 6)):
+        call = logs.call_near(rng, lent, "logs in turn")
+        if rng.random() < 0.3:
+            lending.lend_rows(rng, lent, [])
+        yield call
+        for name in rng.sample(("cared", "count", "build", "sift", "pass", "swap", "evaluate"), 2):
+            yield refusals.near_call(rng, name, lent, n, "between logs")
+
+
+def same_logs(rng):
+    """Two logs, the same in the other sequence, and one of both lists, each on a copy."""
+    n, m = small_size(rng)
+    lent = lending.lent_for(rng, n, m)
+    first, second = lending.rows_inside(rng, n), lending.rows_inside(rng, n)
+    lending.lend_rows(rng, lent, first + second)
+    logs.lend_counts_near(rng, lent)
+    numbers = {"least": logs.least_near(rng, lent)}
+    for lists in ((first, second), (second, first), (first + second,)):
+        copied = lent.copy(lent.contents)
+        for rows in lists:
+            lending.lend_rows(rng, copied, rows)
+            yield Call("log_rows", numbers, copied, f"the same logs as {len(lists)}")
+        yield Call("count", {}, copied, "after the same logs")
+
+
 # Chains.
 
 
@@ -216,7 +249,7 @@ def next_name(rng, lent):
     if holds(lent) == reference.NETWORK and rng.random() < 0.5:
         return rng.choice(lending.HOLDERS)
     names = ["load", "cared", "count", "build", "build", "evaluate", "evaluate_rows", "swap"]
-    return rng.choice(names + ["swap", "sift", "pass", "write_cells", "read_cells"])
+    return rng.choice(names + ["swap", "sift", "pass", "write_cells", "read_cells", "log_rows"])
 
 
 def meddle(rng, lent):
@@ -252,11 +285,9 @@ def next_call(rng, lent, note):
     if name == "build" and holds(lent) != reference.NOTHING and rng.random() < 0.4:
         lend_board(rng, lent)
     n = min(lent.contents["state"][library.N], reference.ORDER_ENTRIES)
-    if name == "evaluate_rows":
-        lending.lend_rows_near(rng, lent, n)
-    call = Call(name, lending.numbers_near(rng, name, n), lent, note)
+    call = refusals.near_call(rng, name, lent, n, note)
     if rng.random() < 0.08:
-        shortened = [*lending.SIZES, "answers"]
+        shortened = [*lending.SIZES, "answers", "counts"]
         buffers = [each for each in library.slices_of(name) if each in shortened]
         refusals.spoil(rng, call, rng.choice(buffers))
     return call
@@ -284,26 +315,25 @@ def large(rng):
     names = ["load", "cared", "build"] + ["evaluate"] * 5 + ["evaluate_rows", "build", "swap"]
     names += ["count", "build"] + ["evaluate"] * 3 + ["evaluate_rows"]
     names += ["build", "write_cells", "read_cells", "evaluate_rows", "write_cells", "build"]
+    names += ["log_rows", "cared", "build", "evaluate", "log_rows", "count"]
     if n * m * 2**n <= MOST_BITS_TRIED:
         names += ["sift", "build", "evaluate"]
     if n * n * m * 2**n <= MOST_BITS_TRIED:
         names += ["pass", "build", "evaluate_rows"]
     for name in names:
         lent.lengths["cells"] = lending.LARGEST_BOARD
-        if name == "evaluate_rows":
-            lending.lend_rows_near(rng, lent, n)
         if name == "build" and rng.random() < 0.3:
             lend_board(rng, lent)
         if name == "write_cells":
             lending.lend_file_space(rng, lent)
         if name == "read_cells":
             lending.lend_written(lent)
-        yield Call(name, lending.numbers_near(rng, name, n), lent, "a larger table")
+        yield refusals.near_call(rng, name, lent, n, "a larger table")
 
 
 SCENES = {
     single: 70, loads: 8, boards: 4, diagram_calls: 9, reads: 8, written_and_read: 8, chain: 14,
-    large: 2,
+    logs_in_turn: 6, same_logs: 3, large: 2,
 }
 
 

@@ -1,6 +1,5 @@
 """The cases of the comparison on table files: fixed ones and random ones."""
 
-import itertools
 import random
 from collections import namedtuple
 
@@ -265,6 +264,11 @@ def rows_near(rng, n):
     return rows
 
 
+def least_near(rng):
+    """Mostly what some rows of a few lists reach."""
+    return rng.choice((0, 1, 1, 1, 2, 2, 3, 5, 65536, LARGEST))
+
+
 def board_words(rng, table, words):
     """A board at, just below or just above the count, or at an end."""
     count = answer_after(table, words, "count")
@@ -276,7 +280,7 @@ def board_words(rng, table, words):
 def random_step(rng, table, words, sifting):
     """The words of one step: a change or question, and what shows it."""
     n = table[4]
-    kinds = ["board", "swap", "eval", "evals", "count", "build", "write"]
+    kinds = ["board", "swap", "eval", "evals", "count", "build", "write", "log", "relog"]
     kinds += ["sift", "sift", "pass", "pass"] if sifting else []
     kind = rng.choice(kinds)
     if kind == "board":
@@ -285,6 +289,9 @@ def random_step(rng, table, words, sifting):
         return ["eval", str(row_near(rng, n)), "eval", str(row_near(rng, n))]
     if kind == "evals":
         return ["evals", list_of(rows_near(rng, n))]
+    if kind in ("log", "relog"):
+        listed = [list_of(rows_near(rng, n))] if kind == "log" else []
+        return ["least", str(least_near(rng)), kind] + listed + ["logged", "cared", "state"]
     if kind == "count":
         return ["count", "state", "cells"]
     if kind == "write":

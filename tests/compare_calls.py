@@ -24,6 +24,7 @@ import calls
 import library
 import network_files
 import reference
+import row_log
 import show_calls
 
 WORKERS = 2
@@ -37,8 +38,11 @@ POSSIBLE = {
     "build": (0, 10, 21, 23), "evaluate": (0, 8, 10, 22, 24),
     "evaluate_rows": (0, 8, 10, 22, 24, 31), "swap": (0, 9, 10, 21), "sift": (0, 9, 10, 21),
     "pass": (0, 10, 21), "write_cells": (0, 10, 22, 24, 32),
-    "read_cells": (0, 1, 2, 3, 4, 5, 6, 7, 10, 23, 24, 32),
+    "read_cells": (0, 1, 2, 3, 4, 5, 6, 7, 10, 23, 24, 32), "log_rows": (0, 8, 10, 21, 33),
 }
+
+# The calls that have a file of their own beside the reference.
+MODULES = {"write_cells": network_files, "read_cells": network_files, "log_rows": row_log}
 
 # `calls` were compared; `given` counts (call, number); `text` shows a difference.
 Result = namedtuple("Result", "chunk calls given text")
@@ -55,8 +59,7 @@ def share(array):
 
 def function_of(name):
     """The reference has the same names, but `pass` is a word of Python."""
-    module = network_files if name in ("write_cells", "read_cells") else reference
-    return getattr(module, "sift_pass" if name == "pass" else name)
+    return getattr(MODULES.get(name, reference), "sift_pass" if name == "pass" else name)
 
 
 def by_reference(call, lent):

@@ -26,21 +26,34 @@ Decisions where the texts leave room:
   a load. Input over 65,536 bytes stays `load 1 0`.
 - `write` calls the writer with the cells as they are, whatever the board, and
   after a success prints `block K C` for each block, C its check.
+- `least R`, `log LIST`, `relog` and `logged` are document 02's 2.4. The desk's counts
+  are 1,024 numbers, all zero at first, and its least is 1 at first. `least` takes any
+  number up to 4,294,967,295 and prints nothing, as `board` does; a list is as that
+  of `evals`.
+- `log` and `relog` print the call's number and value; `relog` logs no row, so the
+  care is made anew by what was logged so far and by the least as it is now.
+- `logged` prints `seen ROW COUNT` for every row below 2^n whose count is not 0, rows
+  rising. It asks no call, so it prints the same at every stage.
+- Words are too few for a sum over 4,294,967,295, so 33 never comes up.
 """
 
 import sys
 
 import network_files
 import reference
+import row_log
 
 LONGEST_INPUT = 65536
 LARGEST_NUMBER = 4294967295
 MOST_CELLS = 2159
 LARGEST_ROW = 65535
 LONGEST_LIST = 4096
+DESK_COUNTS = 1024
 
 PLAIN_WORDS = ("count", "build", "order", "state", "cells", "rows", "cared", "write")
-NUMBER_WORDS = ("swap", "sift", "pass", "eval", "evals", "board")
+PLAIN_WORDS += ("relog", "logged")
+NUMBER_WORDS = ("swap", "sift", "pass", "eval", "evals", "board", "least", "log")
+LIST_WORDS = ("evals", "log")
 
 
 class Desk:
@@ -54,6 +67,8 @@ class Desk:
         self.roots = [0] * reference.ROOTS
         self.cells = [0] * (3 * MOST_CELLS)
         self.board = MOST_CELLS
+        self.counts = [0] * DESK_COUNTS
+        self.least = 1
 
     def load(self, file):
         if len(file) > LONGEST_INPUT:
@@ -83,9 +98,14 @@ class Desk:
         self.cells[: 3 * self.board] = lent
         return answer
 
+    def log(self, rows):
+        return row_log.log_rows(self.state, rows, self.least, self.counts, self.care)
+
     def call(self, word, number):
         """The calls that print `WORD NUMBER VALUE`."""
         table = self.values, self.care, self.work
+        if word in ("log", "relog"):
+            return self.log(number or [])
         if word == "count":
             return reference.count(self.state, *table)
         if word == "build":
@@ -153,11 +173,20 @@ class Desk:
             lines.append(f"block {len(lines) - 1} {reference.stored_check(block)}")
         return lines
 
+    def seen_lines(self):
+        counts = enumerate(self.counts[: 2**self.state.n])
+        return [f"seen {row} {count}" for row, count in counts if count]
+
     def say(self, word, number):
         """The lines that one word of the command prints."""
         if word == "board":
             self.board = number
             return []
+        if word == "least":
+            self.least = number
+            return []
+        if word == "logged":
+            return self.seen_lines()
         if word == "order":
             return [self.order_line()]
         if word == "state":
@@ -193,7 +222,7 @@ def rows_in(text):
 
 def asked_in(word, text):
     """What stands behind a word that takes a number or a list, or None."""
-    if word == "evals":
+    if word in LIST_WORDS:
         return rows_in(text)
     return number_in(text, MOST_CELLS if word == "board" else LARGEST_NUMBER)
 

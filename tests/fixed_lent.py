@@ -11,6 +11,7 @@ import cell_files
 import files
 import lending
 import library
+import logs
 from library import Call
 
 # No place and no reference of the diagrams here.
@@ -20,7 +21,7 @@ NATURAL = tuple(range(10))
 Held = namedtuple("Held", "n m order count stage", defaults=(4, 1, NATURAL, 4, 2))
 Lengths = namedtuple("Lengths", "state values care work roots cells")
 # What the calls of one set are asked.
-Asked = namedtuple("Asked", "place input limit row")
+Asked = namedtuple("Asked", "place input limit row least")
 
 # The first two bytes of values, and of care.
 TWO_ANDS = bytes([0x88, 0xF8]), bytes([0xFF, 0xFF])
@@ -29,8 +30,8 @@ PARITY = bytes([0x96, 0x69]), bytes([0xFF, 0xFF])
 CONSTANTS = bytes([0x00, 0xFF]), bytes([0xFF, 0x00])
 
 WHOLE = Lengths(40, 2048, 2048, 32768, 16, 24)
-INSIDE = Asked(place=1, input=2, limit=8, row=14)
-OUTSIDE = Asked(place=3, input=4, limit=0, row=16)
+INSIDE = Asked(place=1, input=2, limit=8, row=14, least=1)
+OUTSIDE = Asked(place=3, input=4, limit=0, row=16, least=0)
 
 FOUR_CELLS = [(0, 6, 4), (1, 6, 1), (2, 0, 8), (3, 0, 1)]
 FOUR_CELLS_NUMBERS = [number for cell in FOUR_CELLS for number in cell]
@@ -70,6 +71,7 @@ def asked_of(name, asked):
 def one(rng, name, note, held, lengths=WHOLE, asked=INSIDE, table=TWO_ANDS):
     lent = lent_with(rng, held, lengths, table)
     lending.lend_rows(rng, lent, [0, asked.row, 1], more=2)
+    logs.lend_counts(rng, lent, [row % 3 for row in range(2 ** logs.inputs_of(lent))])
     if name == "read_cells":
         lending.lend_file(rng, lent, cell_files.network_file(FOUR_CELLS_NETWORK))
     if name == "write_cells":

@@ -9,6 +9,7 @@ import random
 
 import cases
 import file_cases
+import log_cases
 
 
 def groups(seed, random_count):
@@ -40,4 +41,4 @@ def groups(seed, random_count):
             )
     for i in range(random_count):
         seeded(f"random {i}", cases.random_cases)
-    return made | file_cases.groups(seed, random_count)
+    return made | file_cases.groups(seed, random_count) | log_cases.groups(seed)

@@ -24,8 +24,9 @@ TYPES = {
 SLICES = {
     "state": "u64", "file": "u8", "values": "u8", "care": "u8", "work": "u8",
     "roots": "u16", "cells": "u16", "rows": "u16", "answers": "u16",
+    "counts": "u32",
 }
-NUMBERS = {"row": "u64", "place": "u64", "input": "u64", "limit": "u32"}
+NUMBERS = {"row": "u64", "place": "u64", "input": "u64", "limit": "u32", "least": "u32"}
 
 # The arguments of each call, in their sequence.
 CALLS = {
@@ -40,6 +41,7 @@ CALLS = {
     "pass": "state limit values care work",
     "write_cells": "state roots cells work file",
     "read_cells": "state file values care work roots cells",
+    "log_rows": "state rows least counts care",
 }
 
 # The state's words. Those not named here are never read or changed.

@@ -1,7 +1,7 @@
 """Makes refusals due, one or several at once, in what a call is lent.
 
-Every argument of a call but a limit can be spoilt in its own way, and so can
-the state's words and what a network's cells say. Of several refusals the
+Every argument of a call but a limit or a least can be spoilt in its own way, and
+so can the state's words, the sum of counts and what a network's cells say. Of several refusals the
 paper's sequence names the one that is answered, so each pair and each three of
 them are worth a call.
 """
@@ -14,13 +14,17 @@ import diagrams
 import files
 import lending
 import library
+import logs
 import network_files
 import networks
 from library import Call
 
 # Not arguments: the state's words break a rule, or hold no table or network; a
-# file's cells break a rule of number 24; cells that are not section 4's network.
-WORDS, BREACH, NEAR = "words", "breach", "near"
+# file's cells break a rule of number 24; cells that are not section 4's network; the
+# records are too many.
+WORDS, BREACH, NEAR, RECORDS = "words", "breach", "near", "records"
+# Numbers that are never refused.
+ANY_NUMBER = ("limit", "least")
 # What is spoilt first: the cells' content before its length, and that before the file.
 FIRST = (NEAR, BREACH, "cells")
 # How many refusals are due at once, at most.
@@ -29,9 +33,9 @@ AT_ONCE = 3
 
 def kinds_of(name):
     """What can be spoilt in a call; load takes any state, and that too is tried."""
-    arguments = library.arguments_of(name)
-    more = {"write_cells": [NEAR], "read_cells": [NEAR, BREACH]}.get(name, [])
-    return [argument for argument in arguments if argument != "limit"] + [WORDS] + more
+    arguments = [each for each in library.arguments_of(name) if each not in ANY_NUMBER]
+    more = {"write_cells": [NEAR], "read_cells": [NEAR, BREACH], "log_rows": [RECORDS]}
+    return arguments + [WORDS] + more.get(name, [])
 
 
 def damaged_file(rng, file):
@@ -140,7 +144,10 @@ def spoil_file(rng, call):
 
 
 SPOIL_CALL = {WORDS: spoil_words, NEAR: spoil_network, "cells": spoil_cells, "file": spoil_file}
-SPOIL_LENT = {BREACH: break_filed_diagram, "rows": spoil_rows, "answers": spoil_answers}
+SPOIL_LENT = {
+    BREACH: break_filed_diagram, "rows": spoil_rows, "answers": spoil_answers,
+    "counts": logs.spoil_counts, RECORDS: logs.spoil_records,
+}
 
 
 def spoil(rng, call, kind):
@@ -167,8 +174,17 @@ def spoil_all(rng, call, kinds):
         spoil(rng, call, kind)
 
 
+def near_call(rng, name, lent, n, note):
+    """The call, asked for numbers and rows that are mostly not refused."""
+    if name == "log_rows":
+        return logs.call_near(rng, lent, note)
+    if name == "evaluate_rows":
+        lending.lend_rows_near(rng, lent, n)
+    return Call(name, lending.numbers_near(rng, name, n), lent, note)
+
+
 def sound_call(rng, name, n, m):
-    """No refusal due but, now and then, for the number or for one of the rows."""
+    """No refusal due but, now and then, for the number, one of the rows or the records."""
     lent = lending.lent_for(rng, n, m)
     if name == "load":
         lending.lend_file(rng, lent, cases.random_table(rng, n, m))
@@ -180,9 +196,7 @@ def sound_call(rng, name, n, m):
     if name == "read_cells":
         network = networks.of_table(cases.random_table(rng, n, m))
         lending.lend_file(rng, lent, cell_files.network_file(network))
-    if name == "evaluate_rows":
-        lending.lend_rows_near(rng, lent, n)
-    return Call(name, lending.numbers_near(rng, name, n), lent, "one call")
+    return near_call(rng, name, lent, n, "one call")
 
 
 def refused_at_once(rng, name):

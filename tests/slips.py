@@ -2,10 +2,11 @@
 
     python3 tests/slips.py --library PATH [--seed S] [--skip-fixed] [--named TEXT]
 
-Each slip is made in a copy of reference.py or network_files.py, in a folder of
-its own with the other files, and the comparison there must find a difference. A line says after
-how many calls, counted in the sequence of the chunks. The exit status is 1 if
-one slip is not found. Run by hand: when the calls of the comparison change.
+Each slip is made in a copy of reference.py, network_files.py or row_log.py, in a
+folder of its own with the other files, and the comparison there must find a
+difference. A line says after how many calls, counted in the sequence of the chunks.
+The exit status is 1 if one slip is not found. Run by hand: when the calls of the
+comparison change.
 `--skip-fixed` leaves the fixed calls out, to see what the random ones find;
 `--named TEXT` tries those alone whose name has the text in it.
 """
@@ -20,11 +21,13 @@ import tempfile
 from pathlib import Path
 
 import file_slips
+import log_slips
 import slip_list
 
 # Each with the file that it is made in.
 SLIPS = [("reference.py", *slip) for slip in slip_list.SLIPS]
 SLIPS += [("network_files.py", *slip) for slip in file_slips.SLIPS]
+SLIPS += [("row_log.py", *slip) for slip in log_slips.SLIPS]
 
 HERE = Path(__file__).resolve().parent
 LAST_LINE = re.compile(r"compared (\d+) calls, (\d+) differences")

@@ -80,6 +80,10 @@ class Programs(unittest.TestCase):
         for words, path in (
             ("count sift 1 order build evals 3,12", TABLE),
             ("state eval 30 write", "examples/bounce-guard.cells"),
+            (
+                "count log 0,0,3,5,12,12 logged cared count least 2 relog cared count",
+                "examples/and-or.table",
+            ),
         ):
             shown = shown_in_readme(f"target/bin/desk {words} < {path}")
             with self.subTest(words):

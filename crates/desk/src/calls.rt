@@ -1,8 +1,11 @@
 // The calls, one a word, on the table at the desk.
+use crate::command;
 use crate::command::Command;
+use crate::command::Shown;
 use crate::list::Listed;
 use crate::list::ROWS;
 use crate::list::rows_in;
+use crate::log;
 use crate::show;
 use diagram::NODES;
 use fill::count;
@@ -19,10 +22,12 @@ use text::word::decimal_in;
 // The largest number of a word.
 const LARGEST: u32 = 4294967295;
 
-// What is at the desk: the state, the board for the builds that follow, the word that waits for its number, and whether a word was wrong.
+// What is at the desk: the state, the board for the builds that follow, the least for the logs that follow, the word that waits for its
+// number, and whether a word was wrong.
 pub(crate) struct Desk {
     pub state: State,
     pub board: usize,
+    pub least: u32,
     pub waiting: Command,
     pub ended: bool,
 }
@@ -32,42 +37,51 @@ pub(crate) fn opened(state: State) -> Desk {
     Desk {
         state,
         board: NODES,
+        least: 1,
         waiting: Command::None,
+        ended: false,
+    }
+}
+
+// The desk where a word waits for its number; with None, no word does.
+fn waits(desk: Desk, waiting: Command) -> Desk {
+    let state = desk.state;
+    Desk {
+        state,
+        board: desk.board,
+        least: desk.least,
+        waiting,
         ended: false,
     }
 }
 
 // The desk with a state, and no word that waits.
 fn with_state(desk: Desk, state: State) -> Desk {
-    Desk {
-        state,
-        board: desk.board,
-        waiting: Command::None,
-        ended: false,
-    }
+    let mut next = waits(desk, Command::None);
+    next.state = state;
+    next
 }
 
-// The desk where a word waits for its number.
-fn waits(desk: Desk, waiting: Command) -> Desk {
-    let state = desk.state;
-    Desk {
-        state,
-        board: desk.board,
-        waiting,
-        ended: false,
-    }
+// Sets the board for the builds that follow.
+fn with_board(desk: Desk, board: usize) -> Desk {
+    let mut next = waits(desk, Command::None);
+    next.board = board;
+    next
+}
+
+// Sets the least for the logs that follow.
+fn with_least(desk: Desk, least: u32) -> Desk {
+    let mut next = waits(desk, Command::None);
+    next.least = least;
+    next
 }
 
 // Word k is wrong, which ends the command.
 fn bad(desk: Desk, k: usize) -> Desk {
     show::number(b"bad word", k);
-    let state = desk.state;
-    Desk {
-        state,
-        board: desk.board,
-        waiting: Command::None,
-        ended: true,
-    }
+    let mut next = waits(desk, Command::None);
+    next.ended = true;
+    next
 }
 
 // Prints what a call answers, and goes on with its state.
@@ -103,15 +117,25 @@ pub(crate) fn evaluated_rows(
     with_state(desk, state)
 }
 
-// Sets the board for the builds that follow.
-fn with_board(desk: Desk, board: usize) -> Desk {
+// Logs the rows that word k lists.
+pub(crate) fn logged_rows(
+    desk: Desk,
+    k: usize,
+    word: &[u8],
+    care: &mut [u8],
+    counts: &mut [u32],
+) -> Desk {
+    let mut rows = [0u16; ROWS];
+    let listed = rows_in(word, &mut rows);
+    let Listed::Rows(count) = listed else {
+        return bad(desk, k);
+    };
     let state = desk.state;
-    Desk {
-        state,
-        board,
-        waiting: Command::None,
-        ended: false,
-    }
+    said(
+        desk,
+        b"log",
+        log::log_first(state, count, &rows, desk.least, counts, care),
+    )
 }
 
 // The largest number that a word takes.
@@ -147,29 +171,48 @@ fn built(
     desk
 }
 
+// Prints what a word asks to see.
+fn print(
+    shown: Shown,
+    state: State,
+    care: &[u8],
+    counts: &[u32],
+    work: &mut [u8],
+    roots: &[u16],
+    cells: &[u16],
+) {
+    match shown {
+        Shown::Order => show::order(state),
+        Shown::State => show::stage(state),
+        Shown::Cells => show::cells(state, roots, cells),
+        Shown::Rows => show::rows(state, roots, cells),
+        Shown::Cared => show::cared(state, care),
+        Shown::Write => show::written(state, roots, cells, work),
+        Shown::Logged => log::seen_lines(counts),
+    }
+}
+
 // A word that may be one without a number.
 pub(crate) fn first(
     desk: Desk,
     k: usize,
-    command: Command,
+    word: &[u8],
     values: &[u8],
-    care: &[u8],
+    care: &mut [u8],
+    counts: &mut [u32],
     work: &mut [u8],
     roots: &mut [u16],
     cells: &mut [u16],
 ) -> Desk {
     let state = desk.state;
+    let command = command::of(word);
     match command {
         Command::Unknown => return bad(desk, k),
         Command::None => {}
         Command::Count => show::answer(b"count", count(state, values, care, work)),
         Command::Build => return built(desk, values, care, work, roots, cells),
-        Command::Order => show::order(state),
-        Command::State => show::stage(state),
-        Command::Cells => show::cells(state, roots, cells),
-        Command::Rows => show::rows(state, roots, cells),
-        Command::Cared => show::cared(state, care),
-        Command::Write => show::written(state, roots, cells, work),
+        Command::Relog => return said(desk, b"relog", log::relog(state, desk.least, counts, care)),
+        Command::Show(shown) => print(shown, state, care, counts, work, roots, cells),
         _ => return waits(desk, command),
     }
     desk
@@ -197,6 +240,7 @@ pub(crate) fn second(
         Command::Sift => said(desk, b"sift", sift(state, number, values, care, work)),
         Command::Pass => said(desk, b"pass", pass(state, x, values, care, work)),
         Command::Eval => evaluated(desk, number, roots, cells),
+        Command::Least => with_least(desk, x),
         _ => with_board(desk, number),
     }
 }

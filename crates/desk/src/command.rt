@@ -6,19 +6,28 @@ pub enum Command {
     None,
     Count,
     Build,
+    Relog,
     Swap,
     Sift,
     Pass,
     Eval,
     Evals,
     Board,
+    Least,
+    Log,
+    Show(Shown),
+    Unknown,
+}
+
+// A word that prints what is at the desk, and changes nothing there.
+pub enum Shown {
     Order,
     State,
     Cells,
     Rows,
     Cared,
     Write,
-    Unknown,
+    Logged,
 }
 
 // Which word it is.
@@ -29,23 +38,8 @@ pub(crate) fn of(word: &[u8]) -> Command {
     if same(word, b"build") {
         return Command::Build;
     }
-    if same(word, b"order") {
-        return Command::Order;
-    }
-    if same(word, b"state") {
-        return Command::State;
-    }
-    if same(word, b"cells") {
-        return Command::Cells;
-    }
-    if same(word, b"rows") {
-        return Command::Rows;
-    }
-    if same(word, b"cared") {
-        return Command::Cared;
-    }
-    if same(word, b"write") {
-        return Command::Write;
+    if same(word, b"relog") {
+        return Command::Relog;
     }
     with_number(word)
 }
@@ -69,6 +63,38 @@ fn with_number(word: &[u8]) -> Command {
     }
     if same(word, b"board") {
         return Command::Board;
+    }
+    if same(word, b"least") {
+        return Command::Least;
+    }
+    if same(word, b"log") {
+        return Command::Log;
+    }
+    showing(word)
+}
+
+// Which of the words that print what is at the desk it is.
+fn showing(word: &[u8]) -> Command {
+    if same(word, b"order") {
+        return Command::Show(Shown::Order);
+    }
+    if same(word, b"state") {
+        return Command::Show(Shown::State);
+    }
+    if same(word, b"cells") {
+        return Command::Show(Shown::Cells);
+    }
+    if same(word, b"rows") {
+        return Command::Show(Shown::Rows);
+    }
+    if same(word, b"cared") {
+        return Command::Show(Shown::Cared);
+    }
+    if same(word, b"write") {
+        return Command::Show(Shown::Write);
+    }
+    if same(word, b"logged") {
+        return Command::Show(Shown::Logged);
     }
     Command::Unknown
 }

@@ -4,6 +4,7 @@ mod begin;
 mod calls;
 mod command;
 mod list;
+mod log;
 mod show;
 
 use calls::Desk;
@@ -25,7 +26,8 @@ fn take(
     desk: Desk,
     k: usize,
     values: &[u8],
-    care: &[u8],
+    care: &mut [u8],
+    counts: &mut [u32],
     work: &mut [u8],
     roots: &mut [u16],
     cells: &mut [u16],
@@ -35,8 +37,9 @@ fn take(
     let word: &[u8] = &space[..length];
     let waiting = desk.waiting;
     match waiting {
-        Command::None => calls::first(desk, k, command::of(word), values, care, work, roots, cells),
+        Command::None => calls::first(desk, k, word, values, care, counts, work, roots, cells),
         Command::Evals => calls::evaluated_rows(desk, k, word, roots, cells),
+        Command::Log => calls::logged_rows(desk, k, word, care, counts),
         _ => calls::second(desk, k, waiting, word, values, care, work, roots, cells),
     }
 }
@@ -45,7 +48,8 @@ fn take(
 fn run(
     desk: Desk,
     values: &[u8],
-    care: &[u8],
+    care: &mut [u8],
+    counts: &mut [u32],
     work: &mut [u8],
     roots: &mut [u16],
     cells: &mut [u16],
@@ -57,7 +61,7 @@ fn run(
         if desk.ended {
             return;
         }
-        desk = take(desk, k, values, care, work, roots, cells);
+        desk = take(desk, k, values, care, counts, work, roots, cells);
         k += 1;
     }
     finish(desk, count);
@@ -80,6 +84,7 @@ fn main() {
     let mut file = [0u8; LONGEST + 1];
     let mut values = [0u8; PLANE];
     let mut care = [0u8; PLANE];
+    let mut counts = [0u32; reorder::ROWS];
     let mut work = [0u8; WORK];
     let mut roots = [0u16; ROOTS];
     let mut cells = [0u16; CELLS];
@@ -98,7 +103,8 @@ fn main() {
         Answer::Done(_) => run(
             calls::opened(state),
             &values,
-            &care,
+            &mut care,
+            &mut counts,
             &mut work,
             &mut roots,
             &mut cells,

@@ -43,6 +43,12 @@ pub(crate) fn number(word: &[u8], x: usize) {
     write(&line, length);
 }
 
+pub(crate) fn pair(word: &[u8], x: usize, y: usize) {
+    let mut line = [0u8; LINE];
+    let length = pair_line(&mut line, word, x, y);
+    write(&line, length);
+}
+
 pub(crate) fn order(state: State) {
     let mut line = [0u8; LINE];
     let length = order_line(&mut line, state);
@@ -122,9 +128,7 @@ pub(crate) fn rows(state: State, roots: &[u16], cells: &[u16]) {
 // The line of block k of a file, with its stored check.
 fn block(file: &[u8], k: usize) {
     let check = block_byte(file, k, CHECK_AT) + 256 * block_byte(file, k, CHECK_AT + 1);
-    let mut line = [0u8; LINE];
-    let length = pair_line(&mut line, b"block", k, check);
-    write(&line, length);
+    pair(b"block", k, check);
 }
 
 // The lines of the first blocks of a file.

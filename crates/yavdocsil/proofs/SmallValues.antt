@@ -24,7 +24,7 @@ use Rattle.block.specs.Block.{unusedBetween, unusedZero, unusedBitsZero}
 use Rattle.table.specs.declared.Answer.{Answer}
 use Rattle.table.specs.declared.Answer.the-variants.{Done, BadLength, BadCheck, BadKind, BadInputs, BadOutputs, BadOrder}
 use Rattle.table.specs.declared.Answer.the-variants.{BadContent, NoRow, NoSuch, ShortBuffer, NoTable, NoNetwork, TooSmall}
-use Rattle.table.specs.declared.Answer.the-variants.{BadCells, ShortAnswers, NotCanonical}
+use Rattle.table.specs.declared.Answer.the-variants.{BadCells, ShortAnswers, NotCanonical, TooManyRecords}
 use Rattle.table.specs.declared.State.{State}
 use Rattle.table.specs.Answer.{value, done, unless, unlessRefused, firstRefusal}
 use Rattle.table.specs.State.{orderOf, stageOf, isNothing, isNetwork}
@@ -46,6 +46,7 @@ use Rattle.cellfile.specs.File.{countAt, rootsAt, fileCount, fileDiagram, cellB
 use Rattle.cellfile.specs.File.{unusedHeading, networkHeading, cellsBlock, cellsAnswer, networkFileAnswer}
 use Rattle.cellfile.specs.Read.{readAnswer, readOutcome}
 use Rattle.cellfile.specs.Write.{fileSize, writeAnswer}
+use Rattle.rowlog.specs.Log.{mostRecords, recordsOf, logAnswer, logOutcome}
 use Rattle.sift.specs.Calls.{siftedOrder, siftAnswer, siftOutcome, passOf, passAnswer, passOutcome}
 use Rattle.yavdocsil.specs.Words.{valueLimit}
 
@@ -187,6 +188,20 @@ module _ (s : State) where
   swap-small p =
       let last = unless (ltb (suc p) (s .n)) NoSuch (Done 0) in
       checked held NoTable last refl (λ _. checked (ltb (suc p) (s .n)) NoSuch (Done 0) refl (λ _. none))
+
+  -- logging: the one success is 0
+  pub log-small : (rows counts care : List ℕ) → Small (logOutcome s rows counts care .answer)
+  unfolding logOutcome logAnswer
+  log-small rows counts care =
+      let room = leb (recordsOf s counts + length rows) mostRecords in
+      let inside = all (λ row. ltb row (2 ^ s .n)) rows in
+      let last = unless inside NoRow (unless room TooManyRecords (Done 0)) in
+      let counted = unless (leb (2 ^ s .n) (length counts)) ShortBuffer last in
+      checked (leb planeSize (length care)) ShortBuffer (unless held NoTable counted) refl
+      (λ _. checked held NoTable counted refl
+      (λ _. checked (leb (2 ^ s .n) (length counts)) ShortBuffer last refl
+      (λ _. checked inside NoRow (unless room TooManyRecords (Done 0)) refl
+      (λ _. checked room TooManyRecords (Done 0) refl (λ _. none)))))
 
   pub cared-small : (care : List ℕ) → Small (caredAnswer s care)
   unfolding caredAnswer caredBits

@@ -4,5 +4,6 @@ pub mod build;
 pub mod cells;
 pub mod evaluate;
 pub mod load;
+pub mod log;
 pub mod order;
 mod state;

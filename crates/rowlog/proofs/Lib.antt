@@ -1,0 +1,5 @@
+pub mod Counting
+pub mod Caring
+pub mod Answered
+pub mod LogThen
+pub mod Logs
