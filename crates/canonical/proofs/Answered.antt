@@ -68,7 +68,7 @@ module _ (s : State) (roots cells : List ℕ) where
         answer-many h =
             not-canonical
             (many-none (s .n) (s .m) (orderOf s) (lentDiagram (s .count) (s .m) cells roots)
-            (followable s roots cells long held good .few) (rooted s roots cells long held good .few) ordered formed
+            (followable s roots cells long held good .levelled .few) (rooted s roots cells long held good .few) ordered formed
             (omega (arith, lent-count (s .count) (s .m) cells roots)))
 
         iff : canonical true (s .n) (s .m) (orderOf s) (lentDiagram (s .count) (s .m) cells roots)
@@ -109,12 +109,12 @@ success s roots cells t =
     record {
       long = long;
       held = network-held (stageOf s) (n .0);
-      enough = f .held;
+      enough = f .levelled .held;
       formed = w;
       network = c .0;
       few = omega (
         arith,
         lent-count (s .count) (s .m) cells roots,
-        canonical-count (s .n) (s .m) (orderOf s) D (f .ordered) w (f .few) (rooted s roots cells long held good .few) (c .0),
+        canonical-count (s .n) (s .m) (orderOf s) D (f .ordered) w (f .levelled .few) (rooted s roots cells long held good .few) (c .0),
       );
     }

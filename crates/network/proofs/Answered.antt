@@ -94,12 +94,16 @@ module _ (s : State) (roots cells : List ℕ) (long : mostOutputs ≤ length roo
   module _ (good : goodCells s roots cells ≡ true) where
     pub followable : Followable (s .n) (s .count) (s .order) cells
     unfolding lentDiagram lentCells
-    followable = record {
-      few = inputs-few;
-      ordered = ordered s table;
-      held = good-enough s roots cells good;
-      good = formed-nodes true (s .n) (s .m) (lentDiagram (s .count) (s .m) cells roots) (good-formed s roots cells good);
-    }
+    followable =
+        record {
+          levelled =
+              record {
+                few = inputs-few;
+                held = good-enough s roots cells good;
+                good = formed-nodes true (s .n) (s .m) (lentDiagram (s .count) (s .m) cells roots) (good-formed s roots cells good);
+              };
+          ordered = ordered s table;
+        }
 
     pub rooted : Rooted (s .m) (s .count) roots cells
     unfolding lentDiagram lentCells

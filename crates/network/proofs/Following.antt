@@ -1,16 +1,17 @@
--- Following a row from cell to cell: the bit at a level, the edge that is taken, and that what the row gives at the root is kept.
+-- Following a row from cell to cell: the bit at a level, the edge that is taken, that what the row gives at the root is kept, and that bits
+-- packed by level give the same.
 -- Assumes nothing.
 use mathlib.Core.Path.{_≡_, refl, sym, ap, _∙_}
 use mathlib.Core.Bool.{Bool, true, false, cond}
 use mathlib.Core.List.{List}
-use Prim.Native.Nat.{ℕ, suc, _+_, _*_, _-_, _/_, _^_, _≤_, _<_}
+use Prim.Native.Nat.{ℕ, zero, suc, _+_, _*_, _-_, _/_, _^_, _≤_, _<_}
 use native.Mathlib.Omega.{arith}
 use borrow.Author.Tests.{lt-ltb, le-ltb}
 use lib.Bits.{bitAnd}
 use lib.Dec.{T, eqb, ltb, leb→le}
 use lib.ListN.{length, getD, take}
 use lib.Seq.{getD-take}
-use Rattle.diagram.specs.Lists.{flip, bit}
+use Rattle.diagram.specs.Lists.{flip, digit, bit}
 use Rattle.diagram.specs.Order.{isOrder, rowUnder}
 use Rattle.diagram.specs.Diagram.{Node, Diagram, edge, inverts, nodeAt, refers, gives}
 use Rattle.diagram.proofs.Bools.{split}
@@ -19,10 +20,11 @@ use Rattle.diagram.proofs.Reference.{from, from-reached}
 use Rattle.diagram.proofs.Right.{from-refers}
 use Rattle.diagram.proofs.Function.{Good, node-level, node-edge, gives-constant}
 use Rattle.diagram.proofs.Evaluate.{from-top, gives-edge}
-use Rattle.diagram.proofs.Bits.{eqb-digit}
+use Rattle.block.specs.Bits.{packed}
 use Rattle.reorder.proofs.Shifts.{bit-masked}
 use Rattle.network.specs.Lent.{lentNode}
-use Rattle.network.specs.inner.Cells.{lentCells, Followable}
+use Rattle.network.specs.inner.Cells.{lentCells, Levelled, levelBit}
+use Rattle.network.proofs.LevelBits.{level-packed}
 use Rattle.network.proofs.Nodes.{lent-length}
 use Rattle.network.proofs.Tested.{node-behind}
 
@@ -32,14 +34,14 @@ pub variable-below : (n : ℕ) (order : List ℕ) → T (isOrder n (take n order
 variable-below n order o p h = omega (arith, order-at n (take n order) o p h, getD-take n order p 0 h)
 
 pub bit-shifted : (n : ℕ) (order : List ℕ) (row p : ℕ) → p < n
-    → eqb (bitAnd (row / 2 ^ (n - 1 - getD order p 0)) 1) 1 ≡ rowUnder n (take n order) row p
+    → bitAnd (row / 2 ^ (n - 1 - getD order p 0)) 1 ≡ digit (rowUnder n (take n order) row p)
 bit-shifted n order row p h =
     let v = getD order p 0 in
-    ap (λ (k : ℕ). eqb k 1) (bit-masked n v row) ∙ eqb-digit (bit n v row) ∙ ap (λ (w : ℕ). bit n w row) (sym (getD-take n order p 0 h))
+    bit-masked n v row ∙ ap (λ (w : ℕ). digit (bit n w row)) (sym (getD-take n order p 0 h))
 
 -- the cell behind a reference, and its edge for the row's bit
 
-module _ (n count : ℕ) (order cells : List ℕ) (ok : Followable n count order cells) (r : ℕ) (big : 2 ≤ r)
+module _ (n count : ℕ) (cells : List ℕ) (ok : Levelled n count cells) (r : ℕ) (big : 2 ≤ r)
     (own : T (refers true (lentCells count cells) r)) where
   pub own-le : r ≤ count + count + 1
   own-le = let h = leb→le r (2 * length (lentCells count cells .nodes) + 1) own in omega (arith, lent-length count cells)
@@ -52,12 +54,11 @@ module _ (n count : ℕ) (order cells : List ℕ) (ok : Followable n count order
       let h = node-level true n (lentCells count cells) (ok .good) 0 r (from-top true (lentCells count cells) r own) (le-ltb r 2 big) in
       rw (behind) at h
 
-  pub edge-behind : (row p : ℕ) → p ≡ getD cells (3 * (r / 2 - 1)) 0 → (b : Bool) → b ≡ rowUnder n (take n order) row p
-      → edge b (lentNode cells (r / 2 - 1))
-      ≡ edge (rowUnder n (take n order) row (nodeAt true (lentCells count cells) r .level)) (nodeAt true (lentCells count cells) r)
-  edge-behind row p level b e =
-      ap (λ (a : Bool). edge a (lentNode cells (r / 2 - 1))) (e ∙ ap (rowUnder n (take n order) row) level)
-      ∙ ap (λ (c : Node). edge (rowUnder n (take n order) row (c .level)) c) (sym behind)
+  pub edge-behind : (a : ℕ → Bool) (p : ℕ) → p ≡ getD cells (3 * (r / 2 - 1)) 0
+      → edge (a p) (lentNode cells (r / 2 - 1))
+      ≡ edge (a (nodeAt true (lentCells count cells) r .level)) (nodeAt true (lentCells count cells) r)
+  edge-behind a p level =
+      ap (λ (q : ℕ). edge (a q) (lentNode cells (r / 2 - 1))) level ∙ ap (λ (c : Node). edge (a (c .level)) c) (sym behind)
 
 -- the levels that are left at a reference: none at a constant
 unfoldable pub left : ℕ → Diagram → ℕ → ℕ
@@ -96,3 +97,22 @@ module _ (n : ℕ) (D : Diagram) (good : Good true n D) (a : ℕ → Bool) (r : 
 pub last-gives : (D : Diagram) (a : ℕ → Bool) (n root r : ℕ) → r < 2 → (i : Bool) → gives true D a n root ≡ flip i (gives true D a n r)
     → flip i (eqb r 1) ≡ gives true D a n root
 last-gives D a n root r h i e = ap (flip i) (sym (gives-constant true D a n r (lt-ltb r 2 h))) ∙ sym e
+
+-- rows that agree at every level give the same, since the levels on the way are below n
+module _ (n : ℕ) (D : Diagram) (good : Good true n D) (a b : ℕ → Bool) (agree : (p : ℕ) → p < n → a p ≡ b p) where
+  pub gives-agree : (k r : ℕ) → T (refers true D r) → gives true D a k r ≡ gives true D b k r
+  unfolding gives
+  gives-agree zero r own = refl
+  gives-agree (suc k) r own =
+      split (ltb r 2) (λ e. rw e)
+      (λ e. let p = nodeAt true D r .level in
+      let x = edge (b p) (nodeAt true D r) in
+      let t = from-top true D r own in
+      let on = node-edge true n D good 0 r t e (b p) in
+      rw (e, agree p (node-level true n D good 0 r t e))
+      (ap (flip (inverts true r)) (gives-agree k x (from-refers true D (suc p) x on))))
+
+-- a row whose bits are packed by level gives what the row itself gives
+pub packed-gives : (n : ℕ) (D : Diagram) → Good true n D → (f : ℕ → Bool) (bits : ℕ) → bits ≡ packed n f
+    → (r : ℕ) → T (refers true D r) → gives true D (levelBit bits) n r ≡ gives true D f n r
+packed-gives n D good f bits e r own = gives-agree n D good (levelBit bits) f (level-packed n f bits e) n r own

@@ -3,9 +3,11 @@ pub mod BuildCases
 pub mod Entries
 pub mod Evaluated
 pub mod Following
+pub mod Gathered
 pub mod HeldRead
 pub mod Laid
 pub mod LentNetwork
+pub mod LevelBits
 pub mod LevelRead
 pub mod LevelTurns
 pub mod LevelsRead
@@ -16,6 +18,7 @@ pub mod Offsets
 pub mod Outcomes
 pub mod Outputs
 pub mod RootTurns
+pub mod SelectedEdge
 pub mod Tabulated
 pub mod Tabulating
 pub mod Tested

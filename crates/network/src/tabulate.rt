@@ -2,6 +2,7 @@
 use crate::ROOTS;
 use crate::cells::good_cells;
 use crate::follow::follow;
+use crate::follow::level_bits;
 use block::numbers::lent_number;
 use table::Answer;
 use table::PLANE;
@@ -27,14 +28,8 @@ fn value_bit(state: State, roots: &[u16], cells: &[u16], x: usize) -> bool
     }
     let order = state.order;
     let row = x & ((1 << n) - 1);
-    follow(
-        cells,
-        state.count,
-        order,
-        n,
-        row,
-        lent_number(roots, x >> n),
-    )
+    let bits = level_bits(&order, n, row);
+    follow(cells, state.count, n, bits, lent_number(roots, x >> n))
 }
 
 // Byte i of the stream of values, the first bit the lowest.

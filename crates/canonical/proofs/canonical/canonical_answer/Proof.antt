@@ -65,7 +65,7 @@ is-structured-requires c κs =
     let e = q .before .before in
     let a = e .before .before .before .args in
     let s = a .state in
-    let f = followable (a .state) (now (a .roots)) (now (a .cells)) (e .if1 .left) (held q) (good w) in
+    let f = followable (a .state) (now (a .roots)) (now (a .cells)) (e .if1 .left) (held q) (good w) .levelled in
     let r = rooted (a .state) (now (a .roots)) (now (a .cells)) (e .if1 .left) (held q) (good w) in (
       (f .few, c .if4 .left, own-edges (s .count) (now (a .cells)) (s .n) (f .good), r .fit),
       (f .held, own-roots (s .count) (now (a .cells)) (now (a .roots)) (s .m) (r .fit) (r .own)),

@@ -7,23 +7,21 @@ use mathlib.Core.Path.{_≡_, refl, _∙_}
 use mathlib.Core.Bool.{true}
 use denote.Ref.{now}
 use lib.Dec.{T}
-use lib.ListN.{take}
 use Rattle.diagram.specs.Lists.{flip}
 use Rattle.diagram.specs.Diagram.{refers, gives}
-use Rattle.diagram.specs.Order.{rowUnder}
-use Rattle.network.specs.inner.Cells.{lentCells}
+use Rattle.network.specs.inner.Cells.{lentCells, levelBit}
 use Rattle.network.proofs.Following.{left, step-own, step-falls, step-gives, last-gives}
 use Rattle.network.proofs.follow.follow.Statement.{statement}
 use Rattle.network.proofs.follow.follow.Tie as tie
 
 abbrev Inv-loop : tie.InvT-loop
-Inv-loop cells count order n row root inverted₀ r₀ inverted r =
+Inv-loop cells count n bits root inverted₀ r₀ inverted r =
     T (refers true (lentCells count cells) r)
-    × (gives true (lentCells count cells) (rowUnder n (take n order) row) n root
-    ≡ flip inverted (gives true (lentCells count cells) (rowUnder n (take n order) row) n r))
+    × (gives true (lentCells count cells) (levelBit bits) n root
+    ≡ flip inverted (gives true (lentCells count cells) (levelBit bits) n r))
 
 abbrev μ-loop : tie.MeasureT-loop
-μ-loop cells count order n row root inverted₀ r₀ inverted r = left n (lentCells count cells) r
+μ-loop cells count n bits root inverted₀ r₀ inverted r = left n (lentCells count cells) r
 
 loop-holds : tie.Need-loop-holds Inv-loop μ-loop
 loop-holds c = (c .before .pre .1, refl)
@@ -39,19 +37,20 @@ loop-less c =
     let b = c .before .before .before .before .before in
     let a = b .args in
     let l = c .before .before .before .loop in
-    step-falls (a .n) (lentCells (a .count) (now (a .cells))) (b .pre .0 .good) (rowUnder (a .n) (take (a .n) (a .order)) (a .row)) (l .r)
+    step-falls (a .n) (lentCells (a .count) (now (a .cells))) (b .pre .0 .good) (levelBit (a .bits)) (l .r)
     (l .inv .0) (c .before .before .loop-test .taken) (c .next .result) (c .next .ensures)
 
 loop-again : tie.Need-loop-again Inv-loop μ-loop
 loop-again c =
     let b = c .before .before .before .before .before in
     let a = b .args in
-    let l = c .before .before .before .loop in (
-      step-own (a .n) (lentCells (a .count) (now (a .cells))) (b .pre .0 .good) (rowUnder (a .n) (take (a .n) (a .order)) (a .row)) (l .r)
+    let l = c .before .before .before .loop in
+    let f = c .before .flipped in (
+      step-own (a .n) (lentCells (a .count) (now (a .cells))) (b .pre .0 .good) (levelBit (a .bits)) (l .r)
           (l .inv .0) (c .before .before .loop-test .taken) (c .next .result) (c .next .ensures),
-      step-gives (a .n) (lentCells (a .count) (now (a .cells))) (b .pre .0 .good) (rowUnder (a .n) (take (a .n) (a .order)) (a .row)) (l .r)
+      step-gives (a .n) (lentCells (a .count) (now (a .cells))) (b .pre .0 .good) (levelBit (a .bits)) (l .r)
           (l .inv .0) (c .before .before .loop-test .taken) (c .next .result) (c .next .ensures)
-          (a .root) (l .inverted) (l .inv .1) (c .before .flipped .result) (c .before .flipped .ensures),
+          (a .root) (l .inverted) (l .inv .1) (f .result) (f .ensures),
     )
 
 flipped-requires-2 : tie.Need-flipped-requires-2 Inv-loop μ-loop
@@ -62,7 +61,7 @@ returns c =
     let a = c .before .before .before .before .args in
     let l = c .before .before .loop in
     c .flipped2 .ensures
-    ∙ last-gives (lentCells (a .count) (now (a .cells))) (rowUnder (a .n) (take (a .n) (a .order)) (a .row)) (a .n) (a .root) (l .r)
+    ∙ last-gives (lentCells (a .count) (now (a .cells))) (levelBit (a .bits)) (a .n) (a .root) (l .r)
     (search needs) (l .inverted) (l .inv .1)
 
 pub follow-spec : {M : Type 1} → statement M

@@ -1,10 +1,15 @@
 -- `network::follow::next` meets its contract: the cell behind the reference is lent, and its level is below n.
 -- Assumes nothing.
 use borrow.Author.Needs.{needs}
-use mathlib.Core.Path.{sym, _∙_}
-use mathlib.Core.Bool.{true, false}
+use mathlib.Core.Path.{_∙_}
+use Prim.Native.Nat.{_+_, _-_, _/_, _≤_}
 use native.Mathlib.Omega.{arith}
 use denote.Ref.{now}
+use Rattle.diagram.proofs.Bits.{digit-le}
+use Rattle.network.specs.Lent.{lentNode}
+use Rattle.network.specs.inner.Cells.{levelBit}
+use Rattle.network.proofs.LevelBits.{level-masked}
+use Rattle.network.proofs.SelectedEdge.{edge-selected}
 use Rattle.network.proofs.Following.{own-le, level-below, edge-behind}
 use Rattle.network.proofs.follow.next.Statement.{statement}
 use Rattle.network.proofs.follow.next.Tie as tie
@@ -12,68 +17,63 @@ use Rattle.network.proofs.follow.next.Tie as tie
 sub-first : tie.Need-sub-first
 sub-first c = search needs
 
+-- the reference is to a counted cell
+counted : (s : tie.Start) → s .args .r ≤ s .args .count + s .args .count + 1
+counted s =
+    let a = s .args in
+    own-le (a .n) (a .count) (now (a .cells)) (s .pre .0) (a .r) (s .pre .1 .0) (s .pre .1 .1)
+
 mul-first : tie.Need-mul-first
-mul-first c =
-    let b = c .before in
-    let a = b .args in
-    omega (arith, own-le (a .n) (a .count) (a .order) (now (a .cells)) (b .pre .0) (a .r) (b .pre .1 .0) (b .pre .1 .1), b .pre .0 .held)
+mul-first c = omega (arith, counted (c .before), c .before .pre .0 .held)
 
 lent-number-requires : tie.Need-lent-number-requires
 lent-number-requires c κs = search needs
 
-bit-under-requires : tie.Need-bit-under-requires
-bit-under-requires c κs =
-    let b = c .before .before in
-    let a = b .args in (
-      b .pre .0 .few,
-      (
-        b .pre .0 .ordered,
-        omega (
-          arith,
-          c .lent-number .ensures .0,
-          level-below (a .n) (a .count) (a .order) (now (a .cells)) (b .pre .0) (a .r) (b .pre .1 .0)
-              (b .pre .1 .1),
-        ),
-      ),
-    )
-
 add-lent-number : tie.Need-add-lent-number
 add-lent-number c =
-    let b = c .before .before .before .before in
-    let a = b .args in
-    omega (arith, own-le (a .n) (a .count) (a .order) (now (a .cells)) (b .pre .0) (a .r) (b .pre .1 .0) (b .pre .1 .1), b .pre .0 .held)
+    let s = c .before .before in
+    omega (arith, counted s, s .pre .0 .held)
 
 lent-number-requires-2 : tie.Need-lent-number-requires-2
 lent-number-requires-2 c κs = search needs
 
-returns : tie.Need-returns
-returns c =
-    let b = c .before .before .before .before .before in
-    let a = b .args in
-    let p = c .before .before .before .lent-number in
-    let t = c .before .before .bit-under in
-    c .lent-number2 .ensures .0
-    ∙ edge-behind (a .n) (a .count) (a .order) (now (a .cells)) (b .pre .0) (a .r) (b .pre .1 .0) (b .pre .1 .1) (a .row)
-    (p .result) (p .ensures .0) true (sym (c .before .if1 .taken) ∙ t .ensures)
-
 add-lent-number-2 : tie.Need-add-lent-number-2
 add-lent-number-2 c =
-    let b = c .before .before .before .before in
-    let a = b .args in
-    omega (arith, own-le (a .n) (a .count) (a .order) (now (a .cells)) (b .pre .0) (a .r) (b .pre .1 .0) (b .pre .1 .1), b .pre .0 .held)
+    let s = c .before .before .before in
+    omega (arith, counted s, s .pre .0 .held)
 
 lent-number-requires-3 : tie.Need-lent-number-requires-3
 lent-number-requires-3 c κs = search needs
 
-returns-2 : tie.Need-returns-2
-returns-2 c =
-    let b = c .before .before .before .before .before in
-    let a = b .args in
+shr-selected-edge : tie.Need-shr-selected-edge
+shr-selected-edge c =
+    let s = c .before .before .before .before in
+    let a = s .args in
+    omega (
+      arith,
+      s .pre .0 .few,
+      c .before .before .lent-number .ensures .0,
+      level-below (a .n) (a .count) (now (a .cells)) (s .pre .0) (a .r) (s .pre .1 .0) (s .pre .1 .1),
+    )
+
+selected-edge-requires : tie.Need-selected-edge-requires
+selected-edge-requires c κs =
+    let a = c .before .before .before .before .args in
+    let p = c .before .before .lent-number .result in
+    omega (arith, level-masked (a .bits) p, digit-le (levelBit (a .bits) p))
+
+returns : tie.Need-returns
+returns c =
+    let s = c .before .before .before .before .before in
+    let a = s .args in
     let p = c .before .before .before .lent-number in
-    let t = c .before .before .bit-under in
-    c .lent-number3 .ensures .0
-    ∙ edge-behind (a .n) (a .count) (a .order) (now (a .cells)) (b .pre .0) (a .r) (b .pre .1 .0) (b .pre .1 .1) (a .row)
-    (p .result) (p .ensures .0) false (sym (c .before .if1 .left) ∙ t .ensures)
+    let low = c .before .before .lent-number2 in
+    let high = c .before .lent-number3 in
+    c .selected-edge .ensures
+    ∙ edge-selected (levelBit (a .bits) (p .result)) (lentNode (now (a .cells)) (a .r / 2 - 1)) _ (low .result) (high .result)
+    (level-masked (a .bits) (p .result)) (low .ensures .0) (high .ensures .0)
+    ∙ edge-behind (a .n) (a .count) (now (a .cells)) (s .pre .0) (a .r) (s .pre .1 .0) (s .pre .1 .1) (levelBit (a .bits))
+    (p .result) (p .ensures .0)
 
 pub next-spec : {M : Type 1} → statement M
 next-spec =
@@ -82,10 +82,10 @@ next-spec =
     sub-first
     mul-first
     lent-number-requires
-    bit-under-requires
     add-lent-number
     lent-number-requires-2
-    returns
     add-lent-number-2
     lent-number-requires-3
-    returns-2)
+    shr-selected-edge
+    selected-edge-requires
+    returns)

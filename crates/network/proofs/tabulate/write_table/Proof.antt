@@ -29,10 +29,10 @@ bits : (c : tie.In-loop Inv-loop μ-loop)
     a .state .m * 2 ^ a .state .n % 18446744073709551616 ≡ a .state .m * 2 ^ a .state .n
 bits c =
     let b = c .before .before .before .before .before .before .before in
-    shifted-out (b .args .state .n) (b .args .state .m) (b .pre .0 .followable .few) (b .pre .0 .rooted .few)
+    shifted-out (b .args .state .n) (b .args .state .m) (b .pre .0 .followable .levelled .few) (b .pre .0 .rooted .few)
 
 shl-end : tie.Need-shl-end Inv-loop μ-loop
-shl-end c = omega (arith, c .before .before .before .before .before .pre .0 .followable .few)
+shl-end c = omega (arith, c .before .before .before .before .before .pre .0 .followable .levelled .few)
 
 loop-holds : tie.Need-loop-holds Inv-loop μ-loop
 loop-holds c = (omega (arith, plane-size), (refl, refl))
@@ -56,7 +56,7 @@ ones-byte-requires : tie.Need-ones-byte-requires Inv-loop μ-loop
 ones-byte-requires c κs =
     let b = c .before .before .before .before .before .before .before .before in
     let s = b .args .state in (
-      omega (arith, bits (c .before), stream-small (s .n) (s .m) (b .pre .0 .followable .few) (b .pre .0 .rooted .few)),
+      omega (arith, bits (c .before), stream-small (s .n) (s .m) (b .pre .0 .followable .levelled .few) (b .pre .0 .rooted .few)),
       omega (arith, plane-size),
     )
 
