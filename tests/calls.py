@@ -3,7 +3,7 @@
 A chunk is made from the seed and its number alone, so that one can be run
 again by itself. The first chunks are the fixed ones, the others are random
 scenes: single calls, chains of calls on the same state and buffers, files,
-boards, diagrams, logs and larger tables.
+boards, diagrams, halves that agree, logs and larger tables.
 
 A chunk is a generator. What a call is lent is changed by that call before the
 next one is made, so that a chain meets the leftovers of its own calls.
@@ -16,6 +16,7 @@ import cases
 import cell_files
 import diagrams
 import files
+import fill_tables
 import fixed_calls
 import lending
 import library
@@ -202,6 +203,16 @@ def diagram_calls(rng):
         yield Call("write_cells", {}, lent, "a diagram with a breach")
 
 
+def agreeing_halves(rng):
+    """A table in which many halves agree, document 02's 2.6: built, and in other orders."""
+    n, m = small_size(rng)
+    lent = lending.lent_for(rng, n, m)
+    lending.write_outputs(rng, lent, fill_tables.agreeing(rng, n, m))
+    names = ["build", rng.choice(("swap", "swap", "sift", "pass")), "count", "build", "evaluate"]
+    for name in names:
+        yield refusals.near_call(rng, name, lent, n, "halves that agree")
+
+
 # Logs of rows.
 
 
@@ -333,7 +344,7 @@ def large(rng):
 
 SCENES = {
     single: 70, loads: 8, boards: 4, diagram_calls: 9, reads: 8, written_and_read: 8, chain: 14,
-    logs_in_turn: 6, same_logs: 3, large: 2,
+    agreeing_halves: 6, logs_in_turn: 6, same_logs: 3, large: 2,
 }
 
 

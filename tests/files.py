@@ -50,15 +50,22 @@ def table_file(n, m, order, values, care):
     return b"".join(blocks)
 
 
+def inputs_in(rows):
+    """How many inputs a drawn output has."""
+    return len(rows.split()).bit_length() - 1
+
+
+def streams_from_rows(rows_by_output):
+    """Values and care from texts as the paper writes them: "0 1 1 -" with - free."""
+    marks = [mark for rows in rows_by_output for mark in rows.split()]
+    return [int(mark == "1") for mark in marks], [int(mark != "-") for mark in marks]
+
+
 def table_from_rows(rows_by_output, order=None):
-    """A file from texts as the paper writes them: "0 1 1 -" with - free."""
-    outputs = [rows.split() for rows in rows_by_output]
-    n = len(outputs[0]).bit_length() - 1
-    marks = [mark for output in outputs for mark in output]
-    values = [1 if mark == "1" else 0 for mark in marks]
-    care = [0 if mark == "-" else 1 for mark in marks]
-    natural = list(range(n))
-    return table_file(n, len(outputs), natural if order is None else order, values, care)
+    """A file from such texts, in the natural order if no other is given."""
+    n = inputs_in(rows_by_output[0])
+    order = range(n) if order is None else order
+    return table_file(n, len(rows_by_output), order, *streams_from_rows(rows_by_output))
 
 
 def blocks_of(file):

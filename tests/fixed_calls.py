@@ -11,6 +11,7 @@ import itertools
 import cases
 import files
 import fixed_diagrams
+import fixed_fills
 import fixed_logs
 import fixed_reads
 import fixed_rows
@@ -183,6 +184,6 @@ CHUNKS = [
     widest, shapes, lengths_at_limits, headings, files_and_states, sizes_of_files, boards, moves,
     ties, sizes, fixed_diagrams.all_calls, fixed_rows.all_calls,
 ]
-CHUNKS += fixed_writes.CHUNKS + fixed_reads.CHUNKS + fixed_logs.CHUNKS
+CHUNKS += fixed_writes.CHUNKS + fixed_reads.CHUNKS + fixed_logs.CHUNKS + fixed_fills.CHUNKS
 CHUNKS += [functools.partial(damages, base=base) for base in cases.DAMAGE_BASES]
 CHUNKS += [functools.partial(refused, name=name) for name in library.CALLS]

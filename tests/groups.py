@@ -9,6 +9,7 @@ import random
 
 import cases
 import file_cases
+import fill_cases
 import log_cases
 
 
@@ -41,4 +42,5 @@ def groups(seed, random_count):
             )
     for i in range(random_count):
         seeded(f"random {i}", cases.random_cases)
-    return made | file_cases.groups(seed, random_count) | log_cases.groups(seed)
+    made |= fill_cases.groups(seed) | log_cases.groups(seed)
+    return made | file_cases.groups(seed, random_count)

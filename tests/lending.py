@@ -9,6 +9,7 @@ import array
 import cases
 import cell_files
 import files
+import fill_tables
 import library
 import network_files
 import reference
@@ -117,11 +118,21 @@ def random_planes(rng, n, m):
     return files.packed(values), files.packed(cases.care_bits(rng, n, m))
 
 
-def write_planes(rng, lent, n, m):
+def put_planes(lent, values, care):
     """A table's bytes; the rest of the buffers stays as dirty as it is."""
-    values, care = random_planes(rng, n, m)
     lent.contents["values"][: len(values)] = values
     lent.contents["care"][: len(care)] = care
+
+
+def write_planes(rng, lent, n, m):
+    put_planes(lent, *random_planes(rng, n, m))
+
+
+def write_outputs(rng, lent, outputs):
+    """Outputs with their rows by the places of the order that the state has."""
+    order = reference.used_order(library.state_from(lent.contents["state"]))
+    streams = fill_tables.streams(rng, outputs, order)
+    put_planes(lent, *(files.packed(bits) for bits in streams))
 
 
 def lengthen(rng, lent):

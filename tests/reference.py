@@ -1,5 +1,5 @@
-"""The paper's sections 1 to 7, and document 02's 2.1 and 2.3, written once more,
-as plainly as possible.
+"""The paper's sections 1 to 7, and document 02's 2.1, 2.3 and 2.6, written once
+more, as plainly as possible.
 
 This is the other implementation that the programs are compared with. It is
 made from the papers alone and shares nothing with the crates. Rows are lists,
@@ -23,6 +23,10 @@ ROOTS = 16
 ORDER_ENTRIES = 10
 
 NOTHING, TABLE, NETWORK = "nothing", "table", "network"
+
+# Document 02's 2.6. False is section 3 as it stood before, for the test that fills
+# fully cared tables both ways.
+HALVES_FIRST = True
 
 # A lent table without its order: what a fill under any order starts from.
 Table = namedtuple("Table", "n m values care")
@@ -228,18 +232,34 @@ def link_of(candidate, entries):
     return "entry", len(entries) - 1, 0
 
 
+def halves(segment):
+    half = len(segment) // 2
+    return segment[:half], segment[half:]
+
+
+def links_of_halves(entry, entries):
+    """A finished entry's two links into the next level, the 0-half's first.
+
+    Document 02's 2.6: halves that 'agree wherever both are cared', plainly, are
+    'a single candidate (1-half where cared, else 0-half; either cared), and both
+    links follow it'. That comes before anything is asked of either half alone.
+    """
+    zero_half, one_half = halves(entry)
+    if HALVES_FIRST and agree(one_half, zero_half):
+        link = link_of(merged(one_half, zero_half), entries)
+        return [link, link]
+    return [link_of(zero_half, entries), link_of(one_half, entries)]
+
+
 def links_by_level(outputs, n):
-    """For each level, the links of its candidates in sequence."""
-    levels = []
-    candidates = outputs
-    for level in range(n + 1):
-        entries = []
-        levels.append([link_of(candidate, entries) for candidate in candidates])
-        candidates = []
+    """For each level its links: one of each output, below two of each entry."""
+    entries = []
+    levels = [[link_of(output, entries) for output in outputs]]
+    for _ in range(n):
         # The halves are taken only now that the level's entries are finished.
-        for entry in entries:
-            half = len(entry) // 2
-            candidates += [entry[:half], entry[half:]]
+        finished, entries = entries, []
+        below = [links_of_halves(entry, entries) for entry in finished]
+        levels.append([link for both in below for link in both])
     return levels
 
 
@@ -261,11 +281,6 @@ def filled(table, order):
 
 
 # Section 4: the network.
-
-
-def halves(function):
-    half = len(function) // 2
-    return function[:half], function[half:]
 
 
 def class_member(function):

@@ -229,7 +229,10 @@ NETWORK_SLIPS = [
     ),
     ("never inverted", "((0, candidate), (1, inverse))", "((0, candidate),)"),
     ("inverted before plain", "((0, candidate), (1, inverse))", "((1, inverse), (0, candidate))"),
-    ("an entry's care from before its merges", "(f if c else g, c or d)", "(f if c else g, d)"),
+    (
+        "an entry's care from before its merges", "entries[index] = merged(compared, entry)",
+        "entries[index] = [(f, d) for (f, _), (_, d) in zip(merged(compared, entry), entry)]",
+    ),
     ("constant 1 before constant 0", "for constant in (0, 1):", "for constant in (1, 0):"),
 ]
 

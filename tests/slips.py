@@ -21,11 +21,12 @@ import tempfile
 from pathlib import Path
 
 import file_slips
+import fill_slips
 import log_slips
 import slip_list
 
 # Each with the file that it is made in.
-SLIPS = [("reference.py", *slip) for slip in slip_list.SLIPS]
+SLIPS = [("reference.py", *slip) for slip in slip_list.SLIPS + fill_slips.SLIPS]
 SLIPS += [("network_files.py", *slip) for slip in file_slips.SLIPS]
 SLIPS += [("row_log.py", *slip) for slip in log_slips.SLIPS]
 

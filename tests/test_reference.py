@@ -1,7 +1,8 @@
 """A quick test of the reference against the papers' own figures.
 
 `python3 tests/test_reference.py`. The figures here are copied from the papers
-or worked out by hand, never taken from a program.
+or worked out by hand, never taken from a program. What tables fill to is in
+test_filling.py.
 """
 
 import itertools
@@ -42,14 +43,6 @@ def network_of(file):
     _, count = desk.build()
     triples = [tuple(desk.cells[3 * i : 3 * i + 3]) for i in range(count)]
     return triples, desk.roots[: desk.state.m]
-
-
-def filled_of(file):
-    """The filled outputs of a table in natural order, as text."""
-    desk = loaded(file)
-    table = reference.lent_table(desk.state, desk.values, desk.care)
-    outputs = reference.filled(table, reference.used_order(desk.state))
-    return [" ".join(str(bit) for bit in output) for output in outputs]
 
 
 def desk_lines(file, command):
@@ -119,12 +112,6 @@ class Tables(unittest.TestCase):
         self.assert_network(["0 1 0 1"], [(1, 0, 1)], [2])
         self.assert_network(["0 0 0 -"], [], [0])
 
-    def test_fills(self):
-        for rows in ("0 1 1 -", "0 1 - 1"):
-            file = files.table_from_rows([rows])
-            self.assertEqual(filled_of(file), ["0 1 1 1"])
-            self.assertEqual(len(network_of(file)[0]), 2)
-
     def test_two_ands(self):
         natural, mixed = two_ands([0, 1, 2, 3]), two_ands([0, 2, 1, 3])
         self.assertEqual(desk_lines(natural, "count")[-1], "count 0 4")
@@ -141,43 +128,6 @@ class Tables(unittest.TestCase):
         self.assertEqual(desk_lines(files.table_from_rows(["0 1"]), "swap 0")[-1], "swap 9 0")
         lines = desk_lines(files.table_from_rows(["1"]), "build pass 9 state sift 0")
         self.assertEqual(lines[2:], ["pass 0 0", "state table 0", "sift 9 0"])
-
-
-class Filling(unittest.TestCase):
-    """Section 9's slips, each with a table on which it shows."""
-
-    def assert_fills(self, outputs, filled):
-        self.assertEqual(filled_of(files.table_from_rows(outputs)), filled)
-
-    def test_inverted_match(self):
-        # The lower half is the upper one inverted where it is cared.
-        self.assert_fills(["0 1 1 0 1 0 - -"], ["0 1 1 0 1 0 0 1"])
-
-    def test_care_after_merges(self):
-        # Output 1 widens output 0's entry to 0 1 1 -, which output 2 then
-        # neither is nor inverts, though it agreed with 0 1 - - as it was.
-        outputs = ["0 1 - -", "0 - 1 -", "- 1 0 0"]
-        self.assert_fills(outputs, ["0 1 1 1", "0 1 1 1", "1 1 0 0"])
-
-    def test_constants_before_matches(self):
-        self.assert_fills(["0 1 1 0", "- - 1 -"], ["0 1 1 0", "1 1 1 1"])
-        self.assert_fills(["0 1 1 0", "- - - -"], ["0 1 1 0", "0 0 0 0"])
-
-    def test_plain_before_inverted(self):
-        # No row is cared in both, so plain and inverted would both agree.
-        self.assert_fills(["0 1 - -", "- - 0 1"], ["0 1 0 1", "0 1 0 1"])
-
-    def test_first_entry_in_sequence(self):
-        outputs = ["0 1 1 0", "0 0 1 0", "0 - 1 0"]
-        self.assert_fills(outputs, ["0 1 1 0", "0 0 1 0", "0 1 1 0"])
-
-    def test_full_care_fills_to_itself(self):
-        rng = random.Random(5)
-        for _ in range(50):
-            n, m = rng.randint(0, 5), rng.randint(1, 4)
-            values = [rng.randint(0, 1) for _ in range(m << n)]
-            file = files.table_file(n, m, range(n), values, [1] * len(values))
-            self.assertEqual(" ".join(filled_of(file)), " ".join(map(str, values)))
 
 
 class Networks(unittest.TestCase):
@@ -259,13 +209,15 @@ class Sifting(unittest.TestCase):
         self.assertEqual(lines, ["count 0 3", "sift 0 2", "order 0 1"])
 
     def test_every_order_is_filled_afresh(self):
-        # In the order 0 1 the free row is 1, for two cells; in the order 1 0
-        # it is 0, for input 1 alone. Filled once, both orders have two.
-        file = files.table_from_rows(["0 1 - 1"])
-        for sifting, answer in (("sift 0", 1), ("pass 2", 2)):
+        # In the natural order the halves agree, 0 0 0 1 twice: inputs 1 and 2, two
+        # cells. In the order 1 0 2 they are 0 0 - - and 0 - - 1, so together 0 0 - 1,
+        # which has the halves' constants 0 and 1: input 0 alone. Filled once, every
+        # order has two. (Document 02's 2.6: with 0 1 - 1 both orders have one now.)
+        file = files.table_from_rows(["0 0 0 - - - - 1"])
+        for sifting, answer in (("sift 0", 1), ("sift 1", 1), ("pass 3", 3)):
             lines = desk_lines(file, f"build {sifting} order build cells cared")[1:]
-            wanted = ["build 0 2", f"{sifting[:4]} 0 {answer}", "order 1 0", "build 0 1"]
-            self.assertEqual(lines, wanted + ["cell 1 0 0 1", "root 0 2", "cared 3"])
+            wanted = ["build 0 2", f"{sifting[:4]} 0 {answer}", "order 1 0 2", "build 0 1"]
+            self.assertEqual(lines, wanted + ["cell 1 1 0 1", "root 0 2", "cared 4"])
 
 
 class States(unittest.TestCase):

@@ -190,12 +190,14 @@ class Programs(unittest.TestCase):
         return expected.desk_text(table, command.split()).splitlines()[1:]
 
     def test_section_9_by_logs(self):
-        # 0 0 0 -, then 0 1 1 - and 0 1 - 1, which fill to 0 1 1 1 and take two cells.
+        # 0 0 0 -, then 0 1 1 -, which fills to 0 1 1 1 and takes two cells, and
+        # 0 1 - 1, which by document 02's 2.6 fills to 0 1 0 1 and takes one.
         lines = self.lines(["0 0 0 1"], "log 0,1,2 build cells least 0 relog count")
         self.assertEqual(lines, ["log 0 0", "build 0 0", "root 0 0", "relog 0 0", "count 0 2"])
         or_cells = ["build 0 2", "cell 1 0 4 1", "cell 2 1 0 1", "root 0 2"]
         self.assertEqual(self.lines(["0 1 1 0"], "log 0,1,2 build cells"), ["log 0 0"] + or_cells)
-        self.assertEqual(self.lines(["0 1 1 1"], "log 3,1,0 build cells"), ["log 0 0"] + or_cells)
+        one_cell = ["build 0 1", "cell 1 1 0 1", "root 0 2"]
+        self.assertEqual(self.lines(["0 1 1 1"], "log 3,1,0 build cells"), ["log 0 0"] + one_cell)
 
     def test_words(self):
         command = "logged relog cared log 3,1,3 logged cared least 2 relog cared log 1 cared logged"

@@ -7,14 +7,15 @@ use mathlib.Core.List.{List, [], _∷_, map}
 use Prim.Native.Nat.{ℕ, suc}
 use lib.Dec.{T}
 use Rattle.diagram.specs.Lists.{flip, all, has, distinct}
-use Rattle.diagram.specs.Tree.{Tree, leaf, node, full, halves, pairs, inverted, first, same}
+use Rattle.diagram.specs.Tree.{Tree, leaf, node, full, pairs, inverted, first, same}
 use Rattle.diagram.specs.Fill.{Row, always, agree, merge, Link, candidate, level, fill}
 use Rattle.diagram.specs.Network.{normal}
 use Rattle.diagram.proofs.Bools.{split, to-T, to-not, absurd-T, and-T, and-l, and-r, beq→eq, flip-flip}
 use Rattle.diagram.proofs.Tree.{varies}
 use Rattle.diagram.proofs.Merge.{where-of, agree-sym, merge-differs, merge-varies}
+use Rattle.diagram.proofs.Evened.{nextOf}
 use Rattle.diagram.proofs.Fill.{Along, new, met, next, Joined, fixed, linked, candidate-view}
-use Rattle.diagram.proofs.Kept.{Keeps, KeepsAll, keeps-pairs, keeps-fill}
+use Rattle.diagram.proofs.Kept.{Keeps, KeepsAll, keeps-next, keeps-fill}
 
 -- neither plain nor, where that is allowed, inverted is e as e′ wherever both are cared
 abbrev pub Differ : {d : ℕ} → Bool → Tree Row d → Tree Row d → Type 0
@@ -138,17 +139,17 @@ all-differ inv (e ∷ es) (t ∷ ts) k a =
 
 -- the filled entries of a level
 
-pub filled-keeps : (inv : Bool) {d : ℕ} (es : List (Tree Row (suc d))) → KeepsAll es (pairs (fill inv d (halves es)))
-filled-keeps inv {d} es = keeps-pairs es (fill inv d (halves es)) (keeps-fill inv d (halves es))
+pub filled-keeps : (inv : Bool) {d : ℕ} (es : List (Tree Row (suc d))) → KeepsAll es (pairs (fill inv d (nextOf es)))
+filled-keeps inv {d} es = keeps-next es (fill inv d (nextOf es)) (keeps-fill inv d (nextOf es))
 
 pub apart-filled : (inv : Bool) (d : ℕ) (fs : List (Tree Row (suc d))) →
-    T (distinct same (map (normal inv) (pairs (fill inv d (halves (level inv [] fs .entries))))))
+    T (distinct same (map (normal inv) (pairs (fill inv d (nextOf (level inv [] fs .entries))))))
 apart-filled inv d fs =
     let es = level inv [] fs .entries in
-    all-differ inv es (pairs (fill inv d (halves es))) (filled-keeps inv es) (apart-level inv fs)
+    all-differ inv es (pairs (fill inv d (nextOf es))) (filled-keeps inv es) (apart-level inv fs)
 
 pub varied-filled : (inv : Bool) (d : ℕ) (fs : List (Tree Row (suc d))) →
-    T (all varies (pairs (fill inv d (halves (level inv [] fs .entries)))))
+    T (all varies (pairs (fill inv d (nextOf (level inv [] fs .entries)))))
 varied-filled inv d fs =
     let es = level inv [] fs .entries in
-    all-vary inv es (pairs (fill inv d (halves es))) (filled-keeps inv es) (apart-level inv fs)
+    all-vary inv es (pairs (fill inv d (nextOf es))) (filled-keeps inv es) (apart-level inv fs)

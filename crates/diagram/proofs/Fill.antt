@@ -10,29 +10,32 @@ use lib.Dec.{T, ltb, lt→ltb}
 use lib.ListN.{length, length-map}
 use Rattle.diagram.specs.Lists.{all}
 use Rattle.diagram.specs.Tree.{Tree, halves, pairs}
-use Rattle.diagram.specs.Fill.{Row, always, agree, merge, Link, const, entry, along, candidate, level, follow, settled, fill, trace}
+use Rattle.diagram.specs.Fill.{Row, always, agree, merge, Link, const, entry, along, candidate, level}
+use Rattle.diagram.specs.Fill.{follow, settled, fill, linksUnder, trace}
 use Rattle.diagram.proofs.Bools.{split, to-T, and-T, and-l, and-r}
-use Rattle.diagram.proofs.Tree.{node-halves, length-halves}
+use Rattle.diagram.proofs.Tree.{node-halves}
+use Rattle.diagram.proofs.Evened.{nextOf, length-next, next-entries, next-links, next-fill}
 
--- the equations
+-- the equations, by the next level's candidates two an entry
 
 pub fill-zero : (inv : Bool) (fs : List (Tree Row zero)) → fill inv zero fs ≡ map settled fs
 unfolding fill
 fill-zero inv fs = refl
 
 pub fill-suc : (inv : Bool) (d : ℕ) (fs : List (Tree Row (suc d))) →
-    fill inv (suc d) fs ≡ map (follow (pairs (fill inv d (halves (level inv [] fs .entries))))) (level inv [] fs .links)
+    fill inv (suc d) fs ≡ map (follow (pairs (fill inv d (nextOf (level inv [] fs .entries))))) (level inv [] fs .links)
 unfolding fill
-fill-suc inv d fs = refl
+fill-suc inv d fs =
+    ap (λ E. map (follow (pairs E)) (level inv [] fs .links)) (sym (next-fill inv d (level inv [] fs .entries)))
 
 pub trace-zero : (inv : Bool) (fs : List (Tree Row zero)) → trace inv zero fs ≡ level inv [] fs .links ∷ []
-unfolding trace
+unfolding trace linksUnder
 trace-zero inv fs = refl
 
 pub trace-suc : (inv : Bool) (d : ℕ) (fs : List (Tree Row (suc d))) →
-    trace inv (suc d) fs ≡ level inv [] fs .links ∷ trace inv d (halves (level inv [] fs .entries))
-unfolding trace
-trace-suc inv d fs = refl
+    trace inv (suc d) fs ≡ level inv [] fs .links ∷ trace inv d (nextOf (level inv [] fs .entries))
+unfolding trace linksUnder
+trace-suc inv d fs = let es = level inv [] fs .entries in rw (next-entries inv [] es, next-links inv [] es)
 
 -- one candidate, along the entries: it is a new last entry, or it agrees with an entry and is merged with it,
 -- or it agrees with the first neither plain nor inverted and goes on. The number is its entry's.
@@ -110,16 +113,16 @@ halves-pairs (suc k) (l ∷ h ∷ ts) e =
     let r = halves-pairs k ts (omega arith) in
     (ap (λ (s : List (Tree _ _)). l ∷ h ∷ s) (r .0), ap suc (r .1))
 
--- a level's filled entries: E = pairs (fill inv d (halves es)) for the finished entries es
+-- a level's filled entries: E = pairs (fill inv d (nextOf es)) for the finished entries es
 module _ (inv : Bool) {d : ℕ} (es : List (Tree Row (suc d))) where
-  even : length (fill inv d (halves es)) ≡ 2 * length es
-  even = fill-length inv d (halves es) ∙ length-halves es
+  even : length (fill inv d (nextOf es)) ≡ 2 * length es
+  even = fill-length inv d (nextOf es) ∙ length-next es
 
-  pub halves-filled : halves (pairs (fill inv d (halves es))) ≡ fill inv d (halves es)
-  halves-filled = halves-pairs (length es) (fill inv d (halves es)) even .0
+  pub halves-filled : halves (pairs (fill inv d (nextOf es))) ≡ fill inv d (nextOf es)
+  halves-filled = halves-pairs (length es) (fill inv d (nextOf es)) even .0
 
-  pub filled-length : length (pairs (fill inv d (halves es))) ≡ length es
-  filled-length = halves-pairs (length es) (fill inv d (halves es)) even .1
+  pub filled-length : length (pairs (fill inv d (nextOf es))) ≡ length es
+  filled-length = halves-pairs (length es) (fill inv d (nextOf es)) even .1
 
 -- the links
 

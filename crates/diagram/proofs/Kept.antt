@@ -8,10 +8,12 @@ use native.Mathlib.Nat.{le-of-suc-le-suc, not-suc-le-zero}
 use lib.Dec.{T}
 use lib.ListN.{length, getD}
 use Rattle.diagram.specs.Lists.{flip}
-use Rattle.diagram.specs.Tree.{Tree, leaf, node, at, full, halves, pairs, inverted}
+use Rattle.diagram.specs.Tree.{Tree, leaf, node, half, at, full, pairs, inverted}
 use Rattle.diagram.specs.Fill.{Row, always, merge, Link, const, entry, candidate, level, follow, settled, fill}
 use Rattle.diagram.proofs.Bools.{and-l, and-r, flip-flip}
+use Rattle.diagram.proofs.Tree.{inverted-false}
 use Rattle.diagram.proofs.Merge.{where-to, Within, within-refl, within-trans, merge-first, merge-second}
+use Rattle.diagram.proofs.Evened.{evened, nextOf, within-evened}
 use Rattle.diagram.proofs.Fill.{fill-zero, fill-suc, Along, new, met, next, Joined, fixed, linked, candidate-view}
 
 -- t has f's value at each row where f is cared
@@ -44,14 +46,6 @@ keeps-getD [] ts k i f₀ t₀ h = absurd (not-suc-le-zero h)
 keeps-getD (f ∷ fs) [] k i f₀ t₀ h = absurd k
 keeps-getD (f ∷ fs) (t ∷ ts) k zero f₀ t₀ h = k .0
 keeps-getD (f ∷ fs) (t ∷ ts) k (suc i) f₀ t₀ h = keeps-getD fs ts (k .1) i f₀ t₀ (le-of-suc-le-suc h)
-
-pub keeps-pairs : {d : ℕ} (es : List (Tree Row (suc d))) (ts : List (Tree Bool d)) → KeepsAll (halves es) ts
-    → KeepsAll es (pairs ts)
-keeps-pairs [] [] k = tt
-keeps-pairs [] (t ∷ ts) k = absurd k
-keeps-pairs (e ∷ es) [] k = absurd k
-keeps-pairs (e ∷ es) (l ∷ []) k = absurd (k .1)
-keeps-pairs (node a b ∷ es) (l ∷ h ∷ ts) k = ((k .0, k .1 .0), keeps-pairs es ts (k .1 .1))
 
 -- f's cared rows stand, inverted where i is true, in entry number k
 abbrev Stands : {d : ℕ} → Bool → Tree Row d → List (Tree Row d) → ℕ → Type 0
@@ -137,13 +131,28 @@ settled-keeps (leaf r ∷ fs) = (step (r .care) (r .value), settled-keeps fs)
     step true v t = refl
     step false v t = absurd t
 
--- by induction on the variables: the halves of the finished entries are kept, so the entries are, so what is linked to them
+keeps-node : {d : ℕ} (e : Tree Row (suc d)) (l h : Tree Bool d) → Keeps (half false e) l → Keeps (half true e) h → Keeps e (node l h)
+keeps-node (node a b) l h k m = (k, m)
+
+-- what keeps the next level's candidates, two an entry, keeps the entries, whose cared rows stand in them
+pub keeps-next : {d : ℕ} (es : List (Tree Row (suc d))) (ts : List (Tree Bool d)) → KeepsAll (nextOf es) ts → KeepsAll es (pairs ts)
+keeps-next [] [] k = tt
+keeps-next [] (t ∷ ts) k = absurd k
+keeps-next (e ∷ es) [] k = absurd k
+keeps-next (e ∷ es) (l ∷ []) k = absurd (k .1)
+keeps-next (e ∷ es) (l ∷ h ∷ ts) k = (
+  rw inverted-false at
+      (keeps-inverted false e (evened e) (node l h) (within-evened e) (keeps-node (evened e) l h (k .0) (k .1 .0))),
+  keeps-next es ts (k .1 .1),
+)
+
+-- by induction on the variables: the candidates of the next level are kept, so the finished entries are, so what is linked to them
 pub keeps-fill : (inv : Bool) (d : ℕ) (fs : List (Tree Row d)) → KeepsAll fs (fill inv d fs)
 keeps-fill inv zero fs = rw fill-zero (settled-keeps fs)
 keeps-fill inv (suc d) fs =
     let es = level inv [] fs .entries in
-    rw fill-suc (level-keeps inv [] fs (pairs (fill inv d (halves es)))
-    (keeps-pairs es (fill inv d (halves es)) (keeps-fill inv d (halves es))))
+    rw fill-suc (level-keeps inv [] fs (pairs (fill inv d (nextOf es)))
+    (keeps-next es (fill inv d (nextOf es)) (keeps-fill inv d (nextOf es))))
 
 pub kept-fill : (inv : Bool) (d : ℕ) (fs : List (Tree Row d)) (i : ℕ) (f₀ : Tree Row d) (t₀ : Tree Bool d) → i < length fs →
     Keeps (getD fs i f₀) (getD (fill inv d fs) i t₀)

@@ -9,6 +9,8 @@ pub mod Distinct
 pub mod Bits
 pub mod Tree
 pub mod Merge
+pub mod Twice
+pub mod Evened
 pub mod Fill
 pub mod Kept
 pub mod Apart
@@ -44,4 +46,6 @@ pub mod Spread
 pub mod StructureGives
 pub mod GivesStructure
 pub mod Canonical
+pub mod United
+pub mod Cared
 pub mod Starred

@@ -1,4 +1,5 @@
--- Laws of agreeing and merging: a merge carries the cared rows of both its parts, and conflicts stay conflicts.
+-- Laws of agreeing and merging: a merge carries the cared rows of both its parts, conflicts stay conflicts, and merging again changes
+-- nothing.
 -- Assumes nothing.
 use mathlib.Core.Path.{_≡_, refl, sym, ap₂, _∙_}
 use mathlib.Core.Bool.{Bool, true, false, not, cond, Bool·beq, _&&_, _||_, and-comm}
@@ -7,7 +8,7 @@ use lib.Dec.{T}
 use Rattle.diagram.specs.Lists.{flip}
 use Rattle.diagram.specs.Tree.{Tree, leaf, node}
 use Rattle.diagram.specs.Fill.{Row, always, agree, merge}
-use Rattle.diagram.proofs.Bools.{split, to-T, absurd-T, and-T, and-l, and-r, or-l, or-r, beq→eq, beq-refl}
+use Rattle.diagram.proofs.Bools.{split, of-T, to-T, absurd-T, and-T, and-l, and-r, or-l, or-r, beq→eq, beq-refl}
 
 -- the test that `always` and `agree` put to a row, as a type: where c, two values are one
 pub where-to : (c x y : Bool) → T (not c || Bool·beq x y) → T c → x ≡ y
@@ -53,6 +54,36 @@ merge-second i (leaf r) (leaf s) t =
     )
 merge-second i (node l h) (node l′ h′) t =
     (merge-second i l l′ (and-l (agree i l l′) (agree i h h′) t), merge-second i h h′ (and-r (agree i l l′) (agree i h h′) t))
+
+-- where f's rows stand in e, the two agree as compared and their merge is e; they agree plain and inverted only where f has no cared row
+
+or-both : (a b : Bool) → (T a → T b) → (a || b) ≡ b
+or-both true b f = sym (of-T (f tt))
+or-both false b f = refl
+
+opposed : (b : Bool) → b ≡ not b → ⊥
+opposed true e = absurd-T tt e
+opposed false e = absurd-T tt (sym e)
+
+pub within-agree : {d : ℕ} (i : Bool) (f e : Tree Row d) → Within i f e → T (agree i f e)
+within-agree i (leaf r) (leaf s) m =
+    where-of (r .care && s .care) (flip i (r .value)) (s .value) (λ b. sym (m (and-l (r .care) (s .care) b) .1))
+within-agree i (node l h) (node l′ h′) m =
+    and-T (agree i l l′) (agree i h h′) (within-agree i l l′ (m .0)) (within-agree i h h′ (m .1))
+
+pub within-merge : {d : ℕ} (i : Bool) (f e : Tree Row d) → Within i f e → merge i f e ≡ e
+within-merge i (leaf r) (leaf s) m =
+    ap₂ (λ v c. leaf (record { value = v; care = c })) (cond-both (r .care) (flip i (r .value)) (s .value) (λ c. sym (m c .1)))
+    (or-both (r .care) (s .care) (λ c. m c .0))
+within-merge i (node l h) (node l′ h′) m = ap₂ node (within-merge i l l′ (m .0)) (within-merge i h h′ (m .1))
+
+pub within-opposed : {d : ℕ} (v : Bool) (f e : Tree Row d) → Within true f e → T (agree false f e) → T (always v f)
+within-opposed v (leaf r) (leaf s) m t =
+    where-of (r .care) (r .value) v (λ c. absurd (opposed (r .value)
+    (where-to (r .care && s .care) (r .value) (s .value) t (and-T (r .care) (s .care) c (m c .0)) ∙ m c .1)))
+within-opposed v (node l h) (node l′ h′) m t =
+    and-T (always v l) (always v h) (within-opposed v l l′ (m .0) (and-l (agree false l l′) (agree false h h′) t))
+    (within-opposed v h h′ (m .1) (and-r (agree false l l′) (agree false h h′) t))
 
 -- what agrees with e, or is a constant, does so on the rows that e has from g
 

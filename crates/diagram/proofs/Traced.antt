@@ -16,6 +16,7 @@ use Rattle.diagram.specs.Diagram.{Node, Diagram}
 use Rattle.diagram.specs.Network.{normal, classes, refer, nodeOf, nodes, network, counts}
 use Rattle.diagram.specs.inner.Trace.{differing, linkRef, entryRefs, entryNodes, tracedRefs, tracedNodes, tracedNetwork, tracedCounts}
 use Rattle.diagram.proofs.Tree.{varies}
+use Rattle.diagram.proofs.Evened.{nextOf}
 use Rattle.diagram.proofs.Classes.{classes-distinct}
 use Rattle.diagram.proofs.Apart.{apart-filled, varied-filled}
 use Rattle.diagram.proofs.Levels.{linksOf, below, below-halves, lower, fill-below, trace-lower}
@@ -26,9 +27,9 @@ use Rattle.diagram.proofs.Followed.{fresh-follow}
 use Rattle.diagram.proofs.Refers.{refer-follow}
 use Rattle.diagram.proofs.TracedLevel.{count-links, nodes-links, refs-links}
 
--- the halves of a level's finished entries: the candidates of the next
+-- the candidates of the next level, two for each of a level's finished entries
 abbrev next : {d : ℕ} → Bool → List (Tree Row (suc d)) → List (Tree Row d)
-next inv fs = halves (level inv [] fs .entries)
+next inv fs = nextOf (level inv [] fs .entries)
 
 links-valid : (inv : Bool) (d : ℕ) (fs : List (Tree Row d)) → AllValid inv (length (below inv d fs)) (linksOf inv fs)
 links-valid inv d fs = rising-valid inv 0 (length (below inv d fs)) (linksOf inv fs) (links-rising inv d fs)

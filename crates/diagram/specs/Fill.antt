@@ -1,13 +1,13 @@
--- Section 3 of document 01: filling. Level by level a list of entries, each matched by later candidates and merged with them;
--- then every output read back through the links.
+-- Section 3 of document 01, as document 02's 2.6 changes it: filling. Level by level a list of entries, each matched by later candidates
+-- and merged with them; then every output read back through the links.
 -- `inv` says whether a match may invert; section 3's filling has it true.
 -- Assumes nothing.
 use mathlib.Core.Bool.{Bool, true, false, not, cond, Bool·beq, _&&_, _||_}
-use mathlib.Core.List.{List, [], _∷_, map}
+use mathlib.Core.List.{List, [], _∷_, _++_, map}
 use Prim.Native.Nat.{ℕ, zero, suc}
-use lib.ListN.{getD}
+use lib.ListN.{getD, take, drop}
 use Rattle.diagram.specs.Lists.{flip}
-use Rattle.diagram.specs.Tree.{Tree, leaf, node, halves, pairs, full, inverted}
+use Rattle.diagram.specs.Tree.{Tree, leaf, node, half, pairs, full, inverted}
 
 -- a row of a drawn table: its value, and whether it is cared (document 01's free row: a don't-care)
 pub record Row : Type 0 where
@@ -69,6 +69,29 @@ abbrev pub level : {d : ℕ} → Bool → List (Tree Row d) → List (Tree Row d
 level inv gs [] = record { entries = gs; links = [] }
 level inv gs (f ∷ fs) = then (candidate inv f gs .link) (level inv (candidate inv f gs .entries) fs)
 
+-- document 02, 2.6: whether an entry's halves 'agree wherever both are cared'
+abbrev pub unites : {d : ℕ} → Tree Row (suc d) → Bool
+unites e = agree false (half true e) (half false e)
+
+-- the 'single candidate' that they become: '1-half where cared, else 0-half; either cared'
+abbrev pub united : {d : ℕ} → Tree Row (suc d) → Tree Row d
+united e = merge false (half true e) (half false e)
+
+-- the candidates that an entry gives: the one that its halves become, else 'its 0-half then its 1-half'
+abbrev pub offered : {d : ℕ} → Tree Row (suc d) → List (Tree Row d)
+offered e = cond (unites e) (united e ∷ []) (half false e ∷ half true e ∷ [])
+
+-- the candidates of the level below entries
+abbrev pub candidates : {d : ℕ} → List (Tree Row (suc d)) → List (Tree Row d)
+candidates [] = []
+candidates (e ∷ es) = offered e ++ candidates es
+
+-- two an entry, where xs has one for each candidate: of a single one 'both links follow it'
+abbrev pub twoEach : {A : Type 0} {d : ℕ} → List (Tree Row (suc d)) → List A → List A
+twoEach [] xs = []
+twoEach (e ∷ es) xs =
+    cond (unites e) (take 1 xs ++ (take 1 xs ++ twoEach es (drop 1 xs))) (take 2 xs ++ twoEach es (drop 2 xs))
+
 -- what a link stands for, where `es` are the entries' filled functions
 abbrev pub follow : {d : ℕ} → List (Tree Bool d) → Link → Tree Bool d
 follow {d} es (const v) = full v d
@@ -81,9 +104,16 @@ settled (leaf r) = leaf (r .care && r .value)
 -- the filled functions of the candidates fs of one level
 unfoldable pub fill : Bool → (d : ℕ) → List (Tree Row d) → List (Tree Bool d)
 fill inv zero fs = map settled fs
-fill inv (suc d) fs = map (follow (pairs (fill inv d (halves (level inv [] fs .entries))))) (level inv [] fs .links)
+fill inv (suc d) fs =
+    map (follow (pairs (twoEach (level inv [] fs .entries) (fill inv d (candidates (level inv [] fs .entries))))))
+    (level inv [] fs .links)
+
+-- the links of each level below entries, two an entry
+unfoldable pub linksUnder : Bool → (d : ℕ) → List (Tree Row d) → List (List Link)
+linksUnder inv zero es = []
+linksUnder inv (suc d) es =
+    twoEach es (level inv [] (candidates es) .links) ∷ linksUnder inv d (level inv [] (candidates es) .entries)
 
 -- the links of the candidates, level by level: the outputs', then two an entry of each level in turn
 unfoldable pub trace : Bool → (d : ℕ) → List (Tree Row d) → List (List Link)
-trace inv zero fs = level inv [] fs .links ∷ []
-trace inv (suc d) fs = level inv [] fs .links ∷ trace inv d (halves (level inv [] fs .entries))
+trace inv d fs = level inv [] fs .links ∷ linksUnder inv d (level inv [] fs .entries)

@@ -1,6 +1,7 @@
 pub mod Lists
 pub mod Tree
 pub mod Fill
+pub mod Halves
 pub mod Diagram
 pub mod Network
 pub mod inner

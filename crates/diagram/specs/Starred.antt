@@ -1,5 +1,5 @@
 -- Section 9 of document 01: the starred tables, as one list of claims and one test that computes each from sections 3 to 5;
--- and what document 02's 2.3 changes in one of them.
+-- and what document 02's 2.3 and 2.6 change in them.
 -- Assumes nothing.
 use mathlib.Core.Bool.{Bool, true, false, Bool·beq, _&&_}
 use mathlib.Core.List.{List, [], _∷_, map}
@@ -79,8 +79,10 @@ starred =
     ∷ builds (table 2 ((O ∷ O ∷ O ∷ - ∷ []) ∷ [])) natural ((false ∷ false ∷ false ∷ false ∷ []) ∷ []) [] (0 ∷ [])
     ∷ builds (table 2 ((O ∷ I ∷ I ∷ - ∷ []) ∷ [])) natural ((false ∷ true ∷ true ∷ true ∷ []) ∷ [])
     (cell 0 4 1 ∷ cell 1 0 1 ∷ []) (2 ∷ [])
-    ∷ builds (table 2 ((O ∷ I ∷ - ∷ I ∷ []) ∷ [])) natural ((false ∷ true ∷ true ∷ true ∷ []) ∷ [])
-    (cell 0 4 1 ∷ cell 1 0 1 ∷ []) (2 ∷ [])
+    ∷ builds (table 2 ((O ∷ I ∷ - ∷ I ∷ []) ∷ [])) natural ((false ∷ true ∷ false ∷ true ∷ []) ∷ [])
+    (cell 1 0 1 ∷ []) (2 ∷ [])
+    ∷ builds (table 2 ((- ∷ O ∷ I ∷ - ∷ []) ∷ [])) natural ((true ∷ false ∷ true ∷ false ∷ []) ∷ [])
+    (cell 1 0 1 ∷ []) (3 ∷ [])
     ∷ costs and-or (0 ∷ 1 ∷ 2 ∷ 3 ∷ []) 4
     ∷ costs and-or (0 ∷ 2 ∷ 1 ∷ 3 ∷ []) 6
     ∷ sifts and-or (0 ∷ 2 ∷ 1 ∷ 3 ∷ []) 1 (1 ∷ 0 ∷ 2 ∷ 3 ∷ []) 4

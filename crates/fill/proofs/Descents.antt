@@ -1,3 +1,4 @@
+pub mod EntryCounts
 pub mod LevelsBelow
 pub mod TreeDescent
 pub mod WayDown

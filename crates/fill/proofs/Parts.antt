@@ -1,4 +1,6 @@
+pub mod BitLaws
 pub mod Blockwise
+pub mod MergedAgain
 pub mod PartHalves
 pub mod PartMerge
 pub mod Planes

@@ -7,8 +7,8 @@ use lib.Dec.{leb}
 use lib.ListN.{length, getD}
 use Rattle.diagram.specs.Lists.{upTo}
 use Rattle.diagram.specs.Bound.{mostVariables}
-use Rattle.diagram.specs.Tree.{Tree, halves}
-use Rattle.diagram.specs.Fill.{Row, level, trace}
+use Rattle.diagram.specs.Tree.{Tree}
+use Rattle.diagram.specs.Fill.{Row, level, candidates, trace}
 use Rattle.diagram.specs.Network.{counts}
 use Rattle.diagram.specs.Table.{Table, reordered, filled, cost}
 use Rattle.table.specs.declared.Answer.{Answer}
@@ -46,7 +46,7 @@ drawnOutputs s values care = map (reordered (heldTable s values care) (orderOf s
 -- how many entries each level has
 unfoldable pub entryCounts : (d : ℕ) → List (Tree Row d) → List ℕ
 entryCounts zero fs = []
-entryCounts (suc d) fs = length (level true [] fs .entries) ∷ entryCounts d (halves (level true [] fs .entries))
+entryCounts (suc d) fs = length (level true [] fs .entries) ∷ entryCounts d (candidates (level true [] fs .entries))
 
 -- a list as an array with a number for each level, and zeros past its end
 abbrev pub perLevel : List ℕ → List ℕ

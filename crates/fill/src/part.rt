@@ -3,11 +3,12 @@ use crate::bytes::agree_byte;
 use crate::bytes::always_byte;
 use crate::bytes::merge_byte;
 ghost use mathlib.Core.Path.{_≡_};
+ghost use mathlib.Core.Bool.{false};
 ghost use Prim.Native.Nat.{_+_, _≤_, _<_};
 ghost use lib.Bits.{bitOr};
 ghost use lib.ListN.{length, getD, set};
 ghost use Rattle.fill.specs.inner.Bytes.{mergeByte};
-ghost use Rattle.fill.specs.inner.Parts.{alwaysPart, agreePart, mergePart};
+ghost use Rattle.fill.specs.inner.Parts.{alwaysPart, agreePart, mergePart, unitedOr};
 
 // Whether the candidate f is v wherever it is specified.
 pub(crate) fn always(v: bool, w: usize, f: &[u8]) -> bool
@@ -69,4 +70,18 @@ pub(crate) fn merge(i: bool, w: usize, f: &[u8], g: &mut [u8])
         merge_at(i, w, j, f, g);
         j += 1;
     }
+}
+
+// Merges f into g where the two agree wherever both are cared. Returns whether they do.
+pub(crate) fn unite(w: usize, f: &[u8], g: &mut [u8]) -> bool
+    requires { ⌜ length (now f) ≡ w + w ⌝ }
+    requires { ⌜ length (now g) ≡ w + w ⌝ }
+    ensures { λ r. ⌜ r ≡ agreePart false w (now (f .entry)) (now (g .entry)) ⌝ }
+    ensures { λ _. ⌜ now (g .exit) ≡ unitedOr w (now (f .entry)) (now (g .entry)) (now (g .entry)) ⌝ }
+{
+    if agree(false, w, f, g) {
+        merge(false, w, f, g);
+        return true;
+    }
+    false
 }

@@ -8,24 +8,25 @@ use Prim.Native.Nat.{ℕ, zero, suc, _+_, _*_, _≤_, _<_, suc-le-suc, zero-le}
 use native.Mathlib.Nat.{add-zero, le-trans}
 use native.Mathlib.Omega.{arith}
 use lib.ListN.{length, getD, length-append}
-use Rattle.diagram.specs.Tree.{Tree, halves}
+use Rattle.diagram.specs.Tree.{Tree}
 use Rattle.diagram.specs.Fill.{Row, Link, const, entry, level, trace}
 use Rattle.diagram.specs.inner.Trace.{differing}
-use Rattle.diagram.proofs.Tree.{length-halves}
+use Rattle.diagram.proofs.Evened.{nextOf, length-next}
 use Rattle.diagram.proofs.Fill.{links-length}
 use Rattle.diagram.proofs.Levels.{linksOf, below, below-length, lower, trace-lower}
 use Rattle.diagram.proofs.Rising.{AllValid, links-rising, rising-valid}
 use Rattle.fill.specs.Work.{allLinks}
 use Rattle.fill.specs.Calls.{entryCounts}
+use Rattle.fill.proofs.Descents.EntryCounts.{entries-suc}
 use Rattle.network.proofs.LevelRead.{pairsOf, pairs-half}
 use Rattle.network.proofs.LevelsRead.{topEntries, Sized}
 
 -- the candidates of the next level
 abbrev next : {d : ℕ} → List (Tree Row (suc d)) → List (Tree Row d)
-next fs = halves (level true [] fs .entries)
+next fs = nextOf (level true [] fs .entries)
 
 next-length : {d : ℕ} (fs : List (Tree Row (suc d))) → length (linksOf true (next fs)) ≡ 2 * length (level true [] fs .entries)
-next-length fs = links-length true [] (next fs) ∙ length-halves (level true [] fs .entries)
+next-length fs = links-length true [] (next fs) ∙ length-next (level true [] fs .entries)
 
 top-entries : (d : ℕ) (fs : List (Tree Row d)) → length (below true d fs) ≡ topEntries (lower true d fs)
 top-entries zero fs = refl
@@ -45,11 +46,12 @@ lower-length (suc d) fs = ap length (trace-lower true d (next fs)) ∙ ap suc (l
 pub trace-sized : (m : ℕ) (entries counts : List ℕ) (d p : ℕ) (fs : List (Tree Row d))
     → ((j : ℕ) → j < d → getD entries (p + j) 0 ≡ getD (entryCounts d fs) j 0)
     → ((j : ℕ) → j < d → getD counts (p + j) 0 ≡ getD (map differing (lower true d fs)) j 0) → Sized m entries counts p (lower true d fs)
-unfolding entryCounts
 trace-sized m entries counts zero p fs f g = tt
 trace-sized m entries counts (suc d) p fs f g =
     let e = trace-lower true d (next fs) in
-    let f₀ = ap (λ x. getD entries x 0) (sym (add-zero p)) ∙ f 0 (suc-le-suc zero-le) in
+    let q : (j : ℕ) → getD (entryCounts (suc d) fs) j 0 ≡ getD (length (level true [] fs .entries) ∷ entryCounts d (next fs)) j 0 =
+    λ j. ap (λ l. getD l j 0) (entries-suc d fs) in
+    let f₀ = ap (λ x. getD entries x 0) (sym (add-zero p)) ∙ f 0 (suc-le-suc zero-le) ∙ q 0 in
     let g₀ = ap (λ x. getD counts x 0) (sym (add-zero p)) ∙ g 0 (suc-le-suc zero-le)
     ∙ ap (λ (l : List (List Link)). getD (map differing l) 0 0) e in
     rw e (
@@ -57,7 +59,7 @@ trace-sized m entries counts (suc d) p fs f g =
       g₀,
       links-valid d (next fs),
       trace-sized m entries counts d (suc p) (next fs)
-          (λ j h. let k : suc p + j ≡ p + suc j = omega arith in ap (λ x. getD entries x 0) k ∙ f (suc j) (suc-le-suc h))
+          (λ j h. let k : suc p + j ≡ p + suc j = omega arith in ap (λ x. getD entries x 0) k ∙ f (suc j) (suc-le-suc h) ∙ q (suc j))
           (λ j h. let k : suc p + j ≡ p + suc j = omega arith in
           ap (λ x. getD counts x 0) k ∙ g (suc j) (suc-le-suc h) ∙ ap (λ (l : List (List Link)). getD (map differing l) (suc j) 0) e),
     )

@@ -1,7 +1,7 @@
 -- How long parts are, and how many: of regions, of candidates linked and of levels.
 -- Assumes nothing.
 use mathlib.Core.Path.{_≡_, refl, sym, ap, ap₂, _∙_}
-use mathlib.Core.Bool.{true, false}
+use mathlib.Core.Bool.{Bool, true, false}
 use mathlib.Core.List.{List, [], _∷_, _++_, append-assoc}
 use Prim.Native.Nat.{ℕ, zero, suc, _+_, _*_, _-_, _/_, _%_, _≤_, zero-le}
 use native.Mathlib.Nat.{zero-mul, suc-mul, le-refl}
@@ -12,7 +12,7 @@ use Rattle.diagram.specs.Fill.{Link}
 use Rattle.diagram.proofs.Bools.{split}
 use Rattle.reorder.specs.Sizes.{width}
 use Rattle.fill.specs.inner.Parts.{LevelParts, alwaysPart, agreePart, alongParts, candidatePart, levelParts, chunks, flat, halfPart}
-use Rattle.fill.specs.inner.Parts.{halfParts}
+use Rattle.fill.specs.inner.Parts.{unitedOr, offeredPart, offeredParts}
 use Rattle.fill.specs.Work.{linkNumber, linkBytes}
 use Rattle.fill.proofs.Parts.PartMerge.{length-merge}
 use Rattle.fill.proofs.Parts.PartHalves.{length-half}
@@ -109,16 +109,29 @@ level-append w gs (f ∷ fs) hs =
     let e = level-append w (c .parts) fs hs in
     ap (λ (y : LevelParts). record { parts = y .parts; links = c .link ∷ y .links }) e
 
--- halves
+-- what halves come to
 
-pub long-halves : (d : ℕ) (ps : List (List ℕ)) → Long (width (suc d) + width (suc d)) ps → Long (width d + width d) (halfParts d ps)
-long-halves d [] h = tt
-long-halves d (p ∷ ps) h = (length-half false d p (h .0), (length-half true d p (h .0), long-halves d ps (h .1)))
+length-united : (w : ℕ) (f g x : List ℕ) → length x ≡ w + w → length (unitedOr w f g x) ≡ w + w
+length-united w f g x h = split (agreePart false w f g) (λ e. rw e (length-merge false w f g)) (λ e. rw e h)
 
-pub length-halves : (d : ℕ) (ps : List (List ℕ)) → length (halfParts d ps) ≡ length ps + length ps
-length-halves d [] = refl
-length-halves d (p ∷ ps) = omega (arith, length-halves d ps)
+pub offered-is : (b : Bool) (d : ℕ) (p high low x : List ℕ) → high ≡ halfPart true d p → low ≡ halfPart false d p → x ≡ halfPart b d p
+    → unitedOr (width d) high low x ≡ offeredPart b d p
+unfolding offeredPart
+offered-is b d p high low x h l e = rw (h, l, e)
 
-pub halves-append : (d : ℕ) (ps qs : List (List ℕ)) → halfParts d (ps ++ qs) ≡ halfParts d ps ++ halfParts d qs
-halves-append d [] qs = refl
-halves-append d (p ∷ ps) qs = ap (λ (y : List (List ℕ)). halfPart false d p ∷ halfPart true d p ∷ y) (halves-append d ps qs)
+length-offered : (b : Bool) (d : ℕ) (p : List ℕ) → length p ≡ width (suc d) + width (suc d) → length (offeredPart b d p) ≡ width d + width d
+length-offered b d p h =
+    ap length (sym (offered-is b d p _ _ _ refl refl refl))
+    ∙ length-united (width d) (halfPart true d p) (halfPart false d p) (halfPart b d p) (length-half b d p h)
+
+pub long-offered : (d : ℕ) (ps : List (List ℕ)) → Long (width (suc d) + width (suc d)) ps → Long (width d + width d) (offeredParts d ps)
+long-offered d [] h = tt
+long-offered d (p ∷ ps) h = (length-offered false d p (h .0), (length-offered true d p (h .0), long-offered d ps (h .1)))
+
+pub count-offered : (d : ℕ) (ps : List (List ℕ)) → length (offeredParts d ps) ≡ length ps + length ps
+count-offered d [] = refl
+count-offered d (p ∷ ps) = omega (arith, count-offered d ps)
+
+pub offered-append : (d : ℕ) (ps qs : List (List ℕ)) → offeredParts d (ps ++ qs) ≡ offeredParts d ps ++ offeredParts d qs
+offered-append d [] qs = refl
+offered-append d (p ∷ ps) qs = ap (λ (y : List (List ℕ)). offeredPart false d p ∷ offeredPart true d p ∷ y) (offered-append d ps qs)

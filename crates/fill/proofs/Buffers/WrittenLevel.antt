@@ -1,12 +1,14 @@
 -- The work buffer while a level's candidates are linked: the entries' parts in a region at `to`, the links at `links` behind it.
 -- Assumes nothing.
 use mathlib.Core.Path.{_≡_, sym, ap, ap₂, _∙_}
-use mathlib.Core.List.{List, [], _++_}
+use mathlib.Core.List.{List, [], _∷_, _++_}
 use mathlib.Core.Logic.{_⊎_, ⊎-elim}
-use Prim.Native.Nat.{ℕ, _+_, _*_, _≤_}
-use native.Mathlib.Nat.{mul-le-mul-right}
+use Prim.Native.Nat.{ℕ, _+_, _*_, _≤_, _<_}
+use native.Mathlib.Nat.{mul-le-mul-right, add-zero}
 use native.Mathlib.Omega.{arith}
-use lib.ListN.{length, take, drop}
+use lib.Dec.{lit<}
+use lib.ListN.{length, getD, take, drop, List·getD-append}
+use lib.Seq.{getD-drop}
 use Rattle.diagram.specs.Fill.{Link}
 use Rattle.fill.specs.inner.Parts.{LevelParts, levelParts, chunks, flat}
 use Rattle.fill.specs.Work.{regionSize, linkBytes}
@@ -59,6 +61,26 @@ module _ (s to links : ℕ) (work : List ℕ) (behind : to + regionSize ≤ link
       ∙ ⊎-elim (λ (p : n + j ≤ to). window-before work to (flat gs) (omega arith) n j p)
       (λ (q : to + regionSize ≤ n). ap (take j) (drop-behind work to (flat gs) (omega arith) n (omega (arith, fit-end gs h))))
       o
+
+  -- a link written once more, right behind itself
+  pub link-again : (gs : List (List ℕ)) (k : Link) (m m′ : List ℕ) → Fit s gs
+      → m ≡ written (record { parts = gs; links = k ∷ [] }) to links work
+      → m′ ≡ splice m (links + 2) (getD m links 0 ∷ getD m (links + 1) 0 ∷ [])
+      → m′ ≡ written (record { parts = gs; links = k ∷ k ∷ [] }) to links work
+  unfolding written
+  link-again gs k m m′ h e e′ =
+      let x = linkBytes (k ∷ []) in
+      let y = splice work to (flat gs) in
+      let i : links ≤ length y = omega (arith, length-parts gs h) in
+      let byte : (j : ℕ) → j < 2 → getD m (links + j) 0 ≡ getD x j 0 = λ j b.
+      sym (getD-drop links m j 0)
+      ∙ ap (λ (z : List ℕ). getD z j 0) (ap (drop links) e ∙ drop-here y links x i)
+      ∙ List·getD-append x (drop (links + 2) y) 0 j b in
+      e′
+      ∙ ap₂ (λ (a b : ℕ). splice m (links + 2) (a ∷ b ∷ []))
+      (ap (λ (n : ℕ). getD m n 0) (sym (add-zero links)) ∙ byte 0 (lit< tt)) (byte 1 (lit< tt))
+      ∙ ap (λ (z : List ℕ). splice z (links + 2) x) e
+      ∙ splice-append y links x i x
 
   -- more parts and more links
   more : (gs gs′ : List (List ℕ)) (ls ls′ : List Link) → Fit s gs → Fit s gs′ → length gs ≤ length gs′

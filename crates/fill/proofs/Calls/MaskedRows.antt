@@ -8,10 +8,12 @@ use lib.ListN.{length, length-map}
 use Rattle.diagram.specs.Lists.{flip}
 use Rattle.diagram.specs.Tree.{Tree, leaf, node, draw, half, halves, pairs}
 use Rattle.diagram.specs.Fill.{Row, always, agree, merge, Link, Linked, Level, after, then, along, candidate, level, follow, settled, fill}
-use Rattle.diagram.specs.Fill.{trace}
+use Rattle.diagram.specs.Fill.{unites, trace}
 use Rattle.diagram.proofs.Bools.{split}
+use Rattle.diagram.proofs.Evened.{evened, nextOf}
 use Rattle.diagram.proofs.Fill.{fill-zero, fill-suc, trace-zero, trace-suc}
 use Rattle.fill.specs.Calls.{entryCounts}
+use Rattle.fill.proofs.Descents.EntryCounts.{entries-zero, entries-suc}
 
 -- a row whose value is 0 where it is free, and every row of a tree so
 abbrev pub mask : Row → Row
@@ -89,6 +91,19 @@ halves-masked {d} (t ∷ ts) =
     ap₂ (λ (x : Tree Row d × Tree Row d) (l : List (Tree Row d)). x .0 ∷ x .1 ∷ l)
     (λ i. (half-masked false t i, half-masked true t i)) (halves-masked ts)
 
+-- the candidates of the next level
+
+evened-masked : {d : ℕ} (t : Tree Row (suc d)) → evened (masked t) ≡ masked (evened t)
+evened-masked (node l h) =
+    rw (agree-masked false h l, merge-masked false h l) (split (unites (node l h)) (λ e. rw e) (λ e. rw e))
+
+all-evened : {d : ℕ} (ts : List (Tree Row (suc d))) → map evened (map masked ts) ≡ map masked (map evened ts)
+all-evened [] = refl
+all-evened {d} (t ∷ ts) = ap₂ (λ (x : Tree Row (suc d)) (l : List (Tree Row (suc d))). x ∷ l) (evened-masked t) (all-evened ts)
+
+next-masked : {d : ℕ} (ts : List (Tree Row (suc d))) → nextOf (map masked ts) ≡ map masked (nextOf ts)
+next-masked ts = ap halves (all-evened ts) ∙ halves-masked (map evened ts)
+
 -- all levels
 
 settled-masked : (fs : List (Tree Row 0)) → map settled (map masked fs) ≡ map settled fs
@@ -104,9 +119,9 @@ fill-masked inv zero fs = fill-zero inv (map masked fs) ∙ settled-masked fs �
 fill-masked inv (suc d) fs =
     let es = level inv [] fs .entries in
     fill-suc inv d (map masked fs)
-    ∙ ap (λ (l : Level (suc d)). map (follow (pairs (fill inv d (halves (l .entries))))) (l .links)) (level-masked inv [] fs)
+    ∙ ap (λ (l : Level (suc d)). map (follow (pairs (fill inv d (nextOf (l .entries))))) (l .links)) (level-masked inv [] fs)
     ∙ ap (λ (ts : List (Tree Bool d)). map (follow (pairs ts)) (level inv [] fs .links))
-    (ap (fill inv d) (halves-masked es) ∙ fill-masked inv d (halves es))
+    (ap (fill inv d) (next-masked es) ∙ fill-masked inv d (nextOf es))
     ∙ sym (fill-suc inv d fs)
 
 pub trace-masked : (inv : Bool) (d : ℕ) (fs : List (Tree Row d)) → trace inv d (map masked fs) ≡ trace inv d fs
@@ -115,17 +130,18 @@ trace-masked inv zero fs =
 trace-masked inv (suc d) fs =
     let es = level inv [] fs .entries in
     trace-suc inv d (map masked fs)
-    ∙ ap (λ (l : Level (suc d)). l .links ∷ trace inv d (halves (l .entries))) (level-masked inv [] fs)
-    ∙ ap (λ (kss : List (List Link)). level inv [] fs .links ∷ kss) (ap (trace inv d) (halves-masked es) ∙ trace-masked inv d (halves es))
+    ∙ ap (λ (l : Level (suc d)). l .links ∷ trace inv d (nextOf (l .entries))) (level-masked inv [] fs)
+    ∙ ap (λ (kss : List (List Link)). level inv [] fs .links ∷ kss) (ap (trace inv d) (next-masked es) ∙ trace-masked inv d (nextOf es))
     ∙ sym (trace-suc inv d fs)
 
 pub counts-masked : (d : ℕ) (fs : List (Tree Row d)) → entryCounts d (map masked fs) ≡ entryCounts d fs
-unfolding entryCounts
-counts-masked zero fs = refl
+counts-masked zero fs = entries-zero (map masked fs) ∙ sym (entries-zero fs)
 counts-masked (suc d) fs =
     let es = level true [] fs .entries in
-    ap (λ (l : Level (suc d)). length (l .entries) ∷ entryCounts d (halves (l .entries))) (level-masked true [] fs)
-    ∙ ap₂ (λ (n : ℕ) (l : List ℕ). n ∷ l) (length-map es masked) (ap (entryCounts d) (halves-masked es) ∙ counts-masked d (halves es))
+    entries-suc d (map masked fs)
+    ∙ ap (λ (l : Level (suc d)). length (l .entries) ∷ entryCounts d (nextOf (l .entries))) (level-masked true [] fs)
+    ∙ ap₂ (λ (n : ℕ) (l : List ℕ). n ∷ l) (length-map es masked) (ap (entryCounts d) (next-masked es) ∙ counts-masked d (nextOf es))
+    ∙ sym (entries-suc d fs)
 
 -- a drawn tree
 pub draw-masked : (d : ℕ) (f g : ℕ → Row) (s : ℕ) → ((x : ℕ) → mask (f x) ≡ mask (g x)) → masked (draw d f s) ≡ masked (draw d g s)

@@ -17,12 +17,12 @@ use Rattle.diagram.proofs.Bits.{digit-le}
 use Rattle.block.specs.Bits.{sumBelow}
 use Rattle.block.proofs.Sums.{sum-add, sum-cong}
 use Rattle.reorder.specs.Sizes.{width}
-use Rattle.fill.specs.inner.Parts.{alwaysPart, agreePart, alongParts, candidatePart, levelParts, halfParts}
+use Rattle.fill.specs.inner.Parts.{alwaysPart, agreePart, alongParts, candidatePart, levelParts, offeredParts}
 use Rattle.fill.specs.Work.{regionSize, linkNumber, linkBytes, allLinks}
 use Rattle.fill.specs.inner.Descent.{levelBelow, linksBelow, countsBelow, roomy}
 use Rattle.fill.specs.inner.Counts.{pairDiffers, differingPairs, countsAt, linksEnd}
 use Rattle.fill.proofs.Parts.PartHalves.{width-pos}
-use Rattle.fill.proofs.Buffers.PartLengths.{Long, length-links, candidate-grown, level-grown, long-halves}
+use Rattle.fill.proofs.Buffers.PartLengths.{Long, length-links, candidate-grown, level-grown, long-offered}
 use Rattle.fill.proofs.Descents.LevelsBelow.{links-suc, counts-suc, bytes-suc, links-two, links-length, Room, room-suc, level-fits}
 
 -- numbers of links
@@ -163,7 +163,7 @@ below-under d parts h r =
     let f = level-fits d parts h r in
     let n = length (levelBelow d parts .parts) in
     let c : n * 2 ≤ regionSize = omega (arith, f .1, mul-le-mul-left n (two-wide d)) in
-    under-more (omega arith) (levelBelow d parts .links) (level-under (width d) [] (halfParts d parts) tt (long-halves d parts h))
+    under-more (omega arith) (levelBelow d parts .links) (level-under (width d) [] (offeredParts d parts) tt (long-offered d parts h))
 
 pub counts-below : (work : List ℕ) (d at : ℕ) (parts : List (List ℕ)) (rest : List ℕ) → Long (width d + width d) parts → T (roomy d parts)
     → drop at work ≡ linkBytes (allLinks (linksBelow d parts)) ++ rest

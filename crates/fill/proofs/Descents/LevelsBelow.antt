@@ -9,10 +9,10 @@ use lib.Dec.{T, leb, leb→le, eqb→eq}
 use lib.ListN.{length, length-append}
 use Rattle.diagram.proofs.Bools.{and-l, and-r}
 use Rattle.reorder.specs.Sizes.{width}
-use Rattle.fill.specs.inner.Parts.{halfParts}
+use Rattle.fill.specs.inner.Parts.{offeredParts}
 use Rattle.fill.specs.Work.{regionSize, linkBytes, allLinks}
 use Rattle.fill.specs.inner.Descent.{levelBelow, linksBelow, countsBelow, roomy}
-use Rattle.fill.proofs.Buffers.PartLengths.{Long, level-grown, level-links, links-append, long-halves, length-halves}
+use Rattle.fill.proofs.Buffers.PartLengths.{Long, level-grown, level-links, links-append, long-offered, count-offered}
 use Rattle.fill.proofs.Buffers.WrittenLevel.{Fit}
 
 pub links-suc : (d : ℕ) (parts : List (List ℕ))
@@ -57,7 +57,7 @@ room-first zero parts t = let e : length parts ≡ 0 = ap length (none-left part
 room-first (suc d) parts t = room-suc d parts t .here
 
 pub links-two : (d : ℕ) (parts : List (List ℕ)) → length (levelBelow d parts .links) ≡ length parts + length parts
-links-two d parts = level-links (width d) [] (halfParts d parts) ∙ length-halves d parts
+links-two d parts = level-links (width d) [] (offeredParts d parts) ∙ count-offered d parts
 
 pub links-length : (d : ℕ) (parts : List (List ℕ))
     → length (allLinks (linksBelow (suc d) parts))
@@ -77,6 +77,6 @@ bytes-suc d parts = ap linkBytes (joined-suc d parts) ∙ links-append (levelBel
 pub level-fits : (d : ℕ) (parts : List (List ℕ)) → Long (width (suc d) + width (suc d)) parts → Room d parts
     → Fit (width d + width d) (levelBelow d parts .parts)
 level-fits d parts h r =
-    let t = level-grown (width d) [] (halfParts d parts) tt (long-halves d parts h) in
-    let c : length (levelBelow d parts .parts) ≤ length parts + length parts = omega (arith, t .2, length-halves d parts) in
+    let t = level-grown (width d) [] (offeredParts d parts) tt (long-offered d parts h) in
+    let c : length (levelBelow d parts .parts) ≤ length parts + length parts = omega (arith, t .2, count-offered d parts) in
     (t .0, omega (arith, mul-le-mul-right (width d + width d) c, r .next))

@@ -19,13 +19,13 @@ use Rattle.fill.proofs.Buffers.Chunks.{length-chunks, flat-chunks, chun
 use Rattle.fill.proofs.Linking.TriedEntry.{First, tried-link, tried-part, tried-some, tried-no, tried-kept, room}
 
 -- one entry of several: f is merged into it, or it is passed
-along-first : (i : Bool) (w e : ℕ) (f g : List ℕ) (gs : List (List ℕ)) → First i w f g
+pub along-first : (i : Bool) (w e : ℕ) (f g : List ℕ) (gs : List (List ℕ)) → First i w f g
     → alongParts w e f (g ∷ gs) ≡ record { parts = mergePart i w f g ∷ gs; link = entry e i }
 unfolding alongParts
 along-first false w e f g gs h = let t = h .1 in rw t
 along-first true w e f g gs h = let s = h .0 refl in let t = h .1 in rw (s, t)
 
-along-pass : (w e : ℕ) (f g : List ℕ) (gs : List (List ℕ)) → agreePart false w f g ≡ false → agreePart true w f g ≡ false
+pub along-pass : (w e : ℕ) (f g : List ℕ) (gs : List (List ℕ)) → agreePart false w f g ≡ false → agreePart true w f g ≡ false
     → alongParts w e f (g ∷ gs) ≡ afterPart g (alongParts w (suc e) f gs)
 unfolding alongParts
 along-pass w e f g gs p q = rw (p, q)

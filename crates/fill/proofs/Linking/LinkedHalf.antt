@@ -17,7 +17,8 @@ use Rattle.fill.specs.inner.Level.{partAt, partsAt, written}
 use Rattle.fill.proofs.Buffers.Chunks.{length-chunks}
 use Rattle.fill.proofs.Parts.PartHalves.{width-pos, length-half}
 use Rattle.fill.proofs.Linking.Along.{Shown}
-use Rattle.fill.proofs.Buffers.PartLengths.{Long, Grown, long-chunks, length-flat, chunks-take, candidate-grown}
+use Rattle.fill.proofs.Buffers.PartLengths.{Long, long-chunks, length-flat, chunks-take, candidate-grown}
+use Rattle.fill.proofs.Buffers.WrittenLevel.{Fit}
 
 -- the part that is lent for its half, and the half in the candidate's buffer
 
@@ -31,13 +32,13 @@ pub length-part : (d a : ℕ) (work : List ℕ) → a + (width d + width d) ≤ 
 length-part d a work h = length-take-le (width d + width d) (drop a work) (omega (arith, length-drop a work))
 
 -- what lies at the front of the candidate's buffer, where a half was taken to it
-pub half-is : (b : Bool) (d a v s : ℕ) (work part part′ : List ℕ) → v ≡ width (d + 1) → s ≡ width d + width d
+pub half-is : (b : Bool) (d a s : ℕ) (work part part′ : List ℕ) → s ≡ width d + width d
     → a + (width (suc d) + width (suc d)) ≤ length work
-    → part′ ≡ halfPart b d (take (a + (v + v) - a) (drop a work)) ++ drop (width d + width d) part
+    → part′ ≡ halfPart b d (partAt (suc d) a work) ++ drop (width d + width d) part
     → take s part′ ≡ halfPart b d (partAt (suc d) a work)
-half-is b d a v s work part part′ p q h e =
+half-is b d a s work part part′ q h e =
     let x = halfPart b d (partAt (suc d) a work) in
-    ap (take s) (e ∙ ap (λ (y : List ℕ). halfPart b d y ++ drop (width d + width d) part) (part-is d a v work p))
+    ap (take s) e
     ∙ take-at x (drop (width d + width d) part) s (length-half b d (partAt (suc d) a work) (length-part (suc d) a work h) ∙ sym q)
 
 -- a candidate is linked in a region of n bytes that is lent: R is the region when it is back
@@ -60,8 +61,14 @@ module _ (d k to : ℕ) (f work : List ℕ) (long : length f ≡ width d + width
   among-long : Long (width d + width d) (partsAt d k to work)
   among-long = long-chunks (width d + width d) k (drop to work) (omega (arith, length-drop to work))
 
-  grown : Grown (width d + width d) 1 (partsAt d k to work) (candidatePart (width d) f (partsAt d k to work) .parts)
-  grown = candidate-grown (width d) f (partsAt d k to work) long among-long
+  -- the entries' parts afterwards
+  pub linked-fit : Fit (width d + width d) (candidatePart (width d) f (partsAt d k to work) .parts)
+  linked-fit =
+      let s = width d + width d in
+      let p = candidatePart (width d) f (partsAt d k to work) in
+      let g = candidate-grown (width d) f (partsAt d k to work) long among-long in
+      let c : length (p .parts) ≤ k + 1 = omega (arith, g, length-chunks s k (drop to work)) in
+      (g .0, omega (arith, mul-le-mul-right s c))
 
   linked-core : (l entries link : ℕ) (region after : List ℕ)
       → Shown (width d + width d) (take regionSize (drop to work)) (candidatePart (width d) f (partsAt d k to work)) entries link region
@@ -72,14 +79,13 @@ module _ (d k to : ℕ) (f work : List ℕ) (long : length f ≡ width d + width
   linked-core l entries link region after h e =
       let s = width d + width d in
       let p = candidatePart (width d) f (partsAt d k to work) in
-      let c : length (p .parts) ≤ k + 1 = omega (arith, grown, length-chunks s k (drop to work)) in
-      let m : length (p .parts) * s ≤ regionSize = omega (arith, mul-le-mul-right s c) in (
+      let (g, m) = linked-fit in (
         h .0,
         e
             ∙ ap₂ (λ (y : List ℕ) (n : ℕ). splice (take to work ++ (y ++ drop regionSize (drop to work))) l (n % 256 ∷ n / 256 % 256 ∷ []))
             (h .1 .1) (h .1 .0)
             ∙ ap (λ (y : List ℕ). splice y l (linkNumber (p .link) % 256 ∷ linkNumber (p .link) / 256 % 256 ∷ []))
-            (region-back work (flat (p .parts)) to regionSize (length (p .parts) * s) (length-flat s (p .parts) (grown .0)) m in-work),
+            (region-back work (flat (p .parts)) to regionSize (length (p .parts) * s) (length-flat s (p .parts) g) m in-work),
       )
 
   -- the same, from what code computes: w bytes of values, n bytes lent

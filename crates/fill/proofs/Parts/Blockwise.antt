@@ -24,11 +24,11 @@ eqb-block k a b r s hr hs =
     let q : r ≡ s = eqb→eq r s (and-l (eqb r s) (eqb a b) t) in
     rw (p, q) (eqb-refl (b * 2 ^ k + s)))
 
-cond-block : (i : Bool) (k c s : ℕ) → cond i (c * 2 ^ k + s) 0 ≡ cond i c 0 * 2 ^ k + cond i s 0
+pub cond-block : (i : Bool) (k c s : ℕ) → cond i (c * 2 ^ k + s) 0 ≡ cond i c 0 * 2 ^ k + cond i s 0
 cond-block true k c s = refl
 cond-block false k c s = sym (add-zero (0 * 2 ^ k) ∙ zero-mul (2 ^ k))
 
-cond-lt : (i : Bool) (k c : ℕ) → c < 2 ^ k → cond i c 0 < 2 ^ k
+pub cond-lt : (i : Bool) (k c : ℕ) → c < 2 ^ k → cond i c 0 < 2 ^ k
 cond-lt true k c h = h
 cond-lt false k c h = pow-pos k
 
@@ -80,13 +80,13 @@ both-at : (p : Bool → Bool) → T (both p) → (b : Bool) → T (p b)
 both-at p t true = and-l (p true) (p false) t
 both-at p t false = and-r (p true) (p false) t
 
-abbrev Bits : Type 0
+abbrev pub Bits : Type 0
 Bits = Bool → Bool → Bool → Bool → Bool → Bool
 
-abbrev every : Bits → Bool
+abbrev pub every : Bits → Bool
 every p = both (λ i. both (λ a. both (λ c. both (λ b. both (λ d. p i a c b d)))))
 
-every-at : (p : Bits) → T (every p) → (i a c b d : Bool) → T (p i a c b d)
+pub every-at : (p : Bits) → T (every p) → (i a c b d : Bool) → T (p i a c b d)
 every-at p t i a c b d =
     both-at (p i a c b) (both-at (λ b. both (λ d. p i a c b d)) (both-at (λ c. both (λ b. both (λ d. p i a c b d)))
     (both-at (λ a. both (λ c. both (λ b. both (λ d. p i a c b d))))

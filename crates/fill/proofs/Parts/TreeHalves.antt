@@ -1,6 +1,7 @@
--- The halves of a part are the parts of the halves: below a byte its bits are cut in two, from a byte on its bytes.
+-- The halves of a part are the parts of the halves: below a byte its bits are cut in two, from a byte on its bytes. And so is what they
+-- come to as candidates.
 -- Assumes nothing.
-use mathlib.Core.Path.{_≡_, refl, ap, ap₂, _∙_}
+use mathlib.Core.Path.{_≡_, refl, sym, ap, ap₂, _∙_}
 use mathlib.Core.Bool.{Bool, true, false}
 use mathlib.Core.List.{List, [], _∷_, _++_, map}
 use Prim.Native.Nat.{ℕ, suc, _*_, _/_, _%_, _^_}
@@ -11,14 +12,15 @@ use lib.ListN.{take, drop}
 use lib.Pow.{high, low}
 use lib.Seq.{take-at, drop-at, take-all}
 use Rattle.diagram.specs.Lists.{digit}
-use Rattle.diagram.specs.Tree.{Tree, node, half, halves}
-use Rattle.diagram.specs.Fill.{Row}
-use Rattle.diagram.proofs.Bools.{of-T, of-not}
+use Rattle.diagram.specs.Tree.{Tree, node, half}
+use Rattle.diagram.specs.Fill.{Row, unites, united}
+use Rattle.diagram.proofs.Bools.{split, of-T, of-not}
+use Rattle.diagram.proofs.Evened.{evened, nextOf}
 use Rattle.reorder.specs.Sizes.{width}
 use Rattle.reorder.specs.inner.Pack.{num, pack, encode}
-use Rattle.fill.specs.inner.Parts.{halfBytes, halfPart, halfParts}
-use Rattle.reorder.proofs.Pack.{pack-small, pack-length, num-lt}
-use Rattle.reorder.proofs.Pack.{by-width}
+use Rattle.fill.specs.inner.Parts.{agreePart, mergePart, halfBytes, halfPart, offeredPart, offeredParts}
+use Rattle.reorder.proofs.Pack.{by-width, pack-small, pack-length, num-lt}
+use Rattle.fill.proofs.Parts.TreeTests.{agree-bytes, merge-bytes}
 
 module _ {A : Type 0} (p : A → Bool) where
   -- the rows of a half, out of the number of all rows
@@ -58,7 +60,31 @@ half-bytes {d} b t =
     (take-at v c (width (suc d)) (pack-length (λ r. r .value) t)) (drop-at v c (width (suc d)) (pack-length (λ r. r .value) t))
     ∙ ap₂ _++_ (half-plane (λ r. r .value) b t) (half-plane (λ r. r .care) b t)
 
-pub halves-bytes : {d : ℕ} (ts : List (Tree Row (suc d))) → halfParts d (map encode ts) ≡ map encode (halves ts)
-halves-bytes [] = refl
-halves-bytes (t ∷ ts) =
-    ap₂ (λ (x : List ℕ × List ℕ) (l : List (List ℕ)). x .0 ∷ x .1 ∷ l) (λ i. (half-bytes false t i, half-bytes true t i)) (halves-bytes ts)
+-- what the halves come to
+
+unites-bytes : {d : ℕ} (t : Tree Row (suc d))
+    → agreePart false (width d) (halfPart true d (encode t)) (halfPart false d (encode t)) ≡ unites t
+unites-bytes {d} t =
+    ap₂ (agreePart false (width d)) (half-bytes true t) (half-bytes false t) ∙ agree-bytes false (half true t) (half false t)
+
+united-bytes : {d : ℕ} (t : Tree Row (suc d))
+    → mergePart false (width d) (halfPart true d (encode t)) (halfPart false d (encode t)) ≡ encode (united t)
+united-bytes {d} t =
+    ap₂ (mergePart false (width d)) (half-bytes true t) (half-bytes false t) ∙ merge-bytes false (half true t) (half false t)
+
+half-same : {d : ℕ} (b : Bool) (t : Tree Row d) → half b (node t t) ≡ t
+half-same true t = refl
+half-same false t = refl
+
+offered-tree : {d : ℕ} (b : Bool) (t : Tree Row (suc d)) → offeredPart b d (encode t) ≡ encode (half b (evened t))
+unfolding offeredPart
+offered-tree b t =
+    split (unites t)
+    (λ e. rw (unites-bytes t, e, united-bytes t) (ap encode (sym (half-same b (united t)))))
+    (λ e. rw (unites-bytes t, e) (half-bytes b t))
+
+pub offered-bytes : {d : ℕ} (ts : List (Tree Row (suc d))) → offeredParts d (map encode ts) ≡ map encode (nextOf ts)
+offered-bytes [] = refl
+offered-bytes (t ∷ ts) =
+    ap₂ (λ (x : List ℕ × List ℕ) (l : List (List ℕ)). x .0 ∷ x .1 ∷ l)
+    (λ i. (offered-tree false t i, offered-tree true t i)) (offered-bytes ts)

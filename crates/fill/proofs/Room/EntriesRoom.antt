@@ -8,12 +8,13 @@ use Prim.Native.Nat.{ℕ, suc, _+_, _-_, _^_, _≤_, suc-le-suc}
 use native.Mathlib.Nat.{le-refl, le-suc}
 use native.Mathlib.Omega.{arith}
 use lib.ListN.{length, length-map}
-use Rattle.diagram.specs.Tree.{Tree, leaf, halves, pairs, same}
+use Rattle.diagram.specs.Tree.{Tree, leaf, pairs, same}
 use Rattle.diagram.specs.Fill.{Row, always, Link, candidate, level, fill}
 use Rattle.diagram.specs.Network.{normal}
 use Rattle.diagram.proofs.Bools.{split, of-T, to-T}
 use Rattle.diagram.proofs.Lists.{all-has, all-map, map-has}
 use Rattle.diagram.proofs.Tree.{same-equality, normal-normal, varies}
+use Rattle.diagram.proofs.Evened.{nextOf}
 use Rattle.diagram.proofs.Fill.{Along, new, met, next, Joined, fixed, linked, candidate-view, filled-length}
 use Rattle.diagram.proofs.FirstSeen.{varies-inverted}
 use Rattle.diagram.proofs.Apart.{apart-filled, varied-filled}
@@ -48,7 +49,7 @@ entries-candidates inv fs = omega (arith, entries-from inv [] fs)
 pub entries-most : (d : ℕ) (fs : List (Tree Row (suc d))) → length (level true [] fs .entries) + 1 ≤ 2 ^ (2 ^ suc d - 1)
 entries-most d fs =
     let es : List (Tree Row (suc d)) = level true [] fs .entries in
-    let ts : List (Tree Bool (suc d)) = pairs (fill true d (halves es)) in
+    let ts : List (Tree Bool (suc d)) = pairs (fill true d (nextOf es)) in
     let most =
     classes-of-varied true (suc d) (map (normal true) ts) (apart-filled true d fs)
     (λ t h. let r = map-has same same-equality same same-equality (normal true) t ts h in

@@ -9,9 +9,9 @@ use lib.Dec.{T, leb, leb→le}
 use lib.ListN.{length, length-append}
 use Rattle.diagram.specs.Bound.{mostVariables, mostOutputs}
 use Rattle.diagram.specs.Lists.{all, upTo}
-use Rattle.diagram.specs.Tree.{Tree, halves}
+use Rattle.diagram.specs.Tree.{Tree}
 use Rattle.diagram.specs.Fill.{Row, level, trace}
-use Rattle.diagram.proofs.Tree.{length-halves}
+use Rattle.diagram.proofs.Evened.{nextOf, length-next}
 use Rattle.diagram.proofs.Fill.{links-length, trace-zero, trace-suc}
 use Rattle.diagram.proofs.Numbers.{all-upTo-at}
 use Rattle.fill.specs.Work.{allLinks}
@@ -38,14 +38,14 @@ links-bounded (suc d) fs =
     let es = level true [] fs .entries in
     let c = 2 ^ (2 ^ suc d - 1) - 1 in
     let few : length es ≤ c = omega (arith, entries-most d fs) in
-    let most : length (halves es) ≤ 2 * min (length fs) c =
-    rw (length-halves es) (mul-le-mul-left 2 (le-min (entries-candidates true fs) few)) in
+    let most : length (nextOf es) ≤ 2 * min (length fs) c =
+    rw (length-next es) (mul-le-mul-left 2 (le-min (entries-candidates true fs) few)) in
     rw (trace-suc true d fs)
     (omega (
       arith,
-      length-append (level true [] fs .links) (allLinks (trace true d (halves es))),
+      length-append (level true [] fs .links) (allLinks (trace true d (nextOf es))),
       links-length true [] fs,
-      links-bounded d (halves es),
+      links-bounded d (nextOf es),
       mostLinks-mono d most,
     ))
 

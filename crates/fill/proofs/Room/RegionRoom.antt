@@ -12,10 +12,10 @@ use lib.Dec.{T, leb, le→leb}
 use lib.ListN.{length, length-map}
 use lib.Pow.{pow-mono}
 use Rattle.diagram.specs.Bound.{mostVariables, mostOutputs}
-use Rattle.diagram.specs.Tree.{Tree, halves}
+use Rattle.diagram.specs.Tree.{Tree}
 use Rattle.diagram.specs.Fill.{Row}
 use Rattle.diagram.proofs.Bools.{split, and-T}
-use Rattle.diagram.proofs.Tree.{length-halves}
+use Rattle.diagram.proofs.Evened.{nextOf, length-next}
 use Rattle.fill.specs.Work.{regionSize}
 use Rattle.reorder.specs.Sizes.{width}
 use Rattle.reorder.specs.inner.Pack.{encode}
@@ -33,10 +33,10 @@ entry-rows : {d : ℕ} (fs : List (Tree Row d)) → Rows fs → length (entriesO
 entry-rows {d} fs h = le-trans (mul-le-mul-right (2 ^ d) (entries-candidates true fs)) h
 
 -- the candidates of the next level have no more rows
-rows-next : {d : ℕ} (fs : List (Tree Row (suc d))) → Rows fs → Rows (halves (entriesOf fs))
+rows-next : {d : ℕ} (fs : List (Tree Row (suc d))) → Rows fs → Rows (nextOf (entriesOf fs))
 rows-next {d} fs h =
     let n = length (entriesOf fs) in
-    let e : length (halves (entriesOf fs)) * 2 ^ d ≡ (2 * n) * 2 ^ d = ap (λ (k : ℕ). k * 2 ^ d) (length-halves (entriesOf fs)) in
+    let e : length (nextOf (entriesOf fs)) * 2 ^ d ≡ (2 * n) * 2 ^ d = ap (λ (k : ℕ). k * 2 ^ d) (length-next (entriesOf fs)) in
     let q : n * 2 ^ suc d ≡ n * (2 * 2 ^ d) = ap (λ (k : ℕ). n * k) (omega arith) in
     omega (arith, entry-rows fs h)
 
@@ -75,7 +75,7 @@ roomy-filled (suc d) fs h =
     (fits-here d fs h) in
     let more : T (roomy d (levelBelow d (partsOf fs) .parts)) =
     subst (λ (l : LevelParts). T (roomy d (l .parts))) (sym (below-bytes (entriesOf fs)))
-    (roomy-filled d (halves (entriesOf fs)) (rows-next fs h)) in
+    (roomy-filled d (nextOf (entriesOf fs)) (rows-next fs h)) in
     let a = leb (k * (width (suc d) + width (suc d))) regionSize in
     let b = leb ((k + k) * (width d + width d)) regionSize in
     let c = roomy d (levelBelow d (partsOf fs) .parts) in

@@ -8,13 +8,13 @@ use lib.Dec.{eqb, leb}
 use lib.ListN.{length, take, drop}
 use Rattle.diagram.specs.Fill.{Link}
 use Rattle.reorder.specs.Sizes.{width}
-use Rattle.fill.specs.inner.Parts.{LevelParts, flat, halfParts, levelParts}
+use Rattle.fill.specs.inner.Parts.{LevelParts, flat, offeredParts, levelParts}
 use Rattle.fill.specs.Work.{regionSize, linksAt, zeroWork}
 use Rattle.fill.specs.inner.Splice.{splice}
 
--- the level below entries of d + 1 variables: their halves are its candidates
+-- the level below entries of d + 1 variables: what their halves come to are its candidates
 abbrev pub levelBelow : ℕ → List (List ℕ) → LevelParts
-levelBelow d parts = levelParts (width d) [] (halfParts d parts)
+levelBelow d parts = levelParts (width d) [] (offeredParts d parts)
 
 -- the links of each level below entries of d variables
 unfoldable pub linksBelow : (d : ℕ) → List (List ℕ) → List (List Link)

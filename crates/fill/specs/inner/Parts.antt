@@ -30,6 +30,10 @@ mergePart i w f g =
     map (λ j. mergeByte i (valueByte f j) (careByte w f j) (valueByte g j)) (upTo w)
     ++ map (λ j. bitOr (careByte w f j) (careByte w g j)) (upTo w)
 
+-- what f and g become where they agree, f as it is, wherever both are cared; else x
+abbrev pub unitedOr : ℕ → List ℕ → List ℕ → List ℕ → List ℕ
+unitedOr w f g x = cond (agreePart false w f g) (mergePart false w f g) x
+
 -- the entries' parts after one candidate, and its link
 pub record LinkedPart : Type 0 where
   pub parts : List (List ℕ)
@@ -72,10 +76,15 @@ unfoldable pub halfPart : Bool → ℕ → List ℕ → List ℕ
 halfPart b d part =
     halfBytes b d (width d) (take (width (suc d)) part) ++ halfBytes b d (width d) (drop (width (suc d)) part)
 
--- each part's 0-half, then its 1-half
-abbrev pub halfParts : ℕ → List (List ℕ) → List (List ℕ)
-halfParts d [] = []
-halfParts d (p ∷ ps) = halfPart false d p ∷ halfPart true d p ∷ halfParts d ps
+-- document 02, 2.6, on bytes: the candidate that half b of a part comes to
+unfoldable pub offeredPart : Bool → ℕ → List ℕ → List ℕ
+offeredPart b d part = unitedOr (width d) (halfPart true d part) (halfPart false d part) (halfPart b d part)
+
+-- two candidates a part, its 0-half's first; where its halves agree both are the one that they become, and placing that twice is
+-- placing it once (law `level-twice`)
+abbrev pub offeredParts : ℕ → List (List ℕ) → List (List ℕ)
+offeredParts d [] = []
+offeredParts d (p ∷ ps) = offeredPart false d p ∷ offeredPart true d p ∷ offeredParts d ps
 
 -- the entries' parts after several candidates, and their links
 pub record LevelParts : Type 0 where

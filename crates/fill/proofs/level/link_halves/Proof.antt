@@ -1,37 +1,142 @@
--- `fill::level::link_halves` meets its contract: the part lies outside of what linking its first half writes. Assumes nothing.
+-- `fill::level::link_halves` meets its contract: what lies at the front of the two buffers are the halves. Assumes nothing.
 use borrow.Author.Needs.{needs}
-use Rattle.fill.proofs.Linking.LinkedHalves.{second-room, both-linked}
+use mathlib.Core.Path.{_≡_, ap, _∙_}
+use mathlib.Core.Bool.{Bool, true, false}
+use mathlib.Core.List.{List, _++_}
+use Prim.Native.Nat.{ℕ, suc, _+_, _-_, _≤_}
+use native.Mathlib.Nat.{le-of-lt}
+use native.Mathlib.Omega.{arith}
+use lib.ListN.{length, take, drop}
+use Rattle.reorder.specs.Sizes.{width, partSize}
+use Rattle.reorder.proofs.Shifts.{part-size, width-room, width-met}
+use Rattle.fill.specs.inner.Parts.{halfPart}
+use Rattle.fill.specs.inner.Level.{partAt}
+use Rattle.fill.proofs.Parts.PartHalves.{length-half}
+use Rattle.fill.proofs.Buffers.PartLengths.{offered-is}
+use Rattle.fill.proofs.Linking.LinkedHalf.{length-part, half-is}
+use Rattle.fill.proofs.Linking.LinkedPair.{linked-as}
 use Rattle.fill.proofs.level.link_halves.Statement.{statement}
 use Rattle.fill.proofs.level.link_halves.Tie as tie
 
-link-half-requires : tie.Need-link-half-requires
-link-half-requires c κs = search needs
+-- what taking a half asks
+asks : (s : tie.Start) → width (s .args .d) + width (s .args .d) ≤ partSize
+asks s = width-room (s .args .d) (le-of-lt (s .pre .0 .0))
 
-add-second : tie.Need-add-second
-add-second c = search needs
+slice-aggregate-half-at : tie.Need-slice-aggregate-half-at
+slice-aggregate-half-at c = search needs
 
-link-half-requires-2 : tie.Need-link-half-requires-2
-link-half-requires-2 c κs =
-    let h = c .before .before .before in
-    let s = h .before .before .before in
-    let a = s .args in
-    let i = second-room (a .d) (a .a) (a .to) (a .k) (a .l) (a .work .now) (s .pre .1 .0) (s .pre .1 .1 .0 .0) (s .pre .1 .1 .0 .1)
-    (s .pre .1 .1 .1 .0) (s .pre .1 .1 .1 .1) (h .link-half .result) (h .link-half .ensures .0) in
-    (search needs, (search needs, (search needs, (i, search needs))))
+half-at-requires : tie.Need-half-at-requires
+half-at-requires c κs =
+    let s = c .before .before .before in
+    (s .pre .0 .0, (s .pre .0 .1, omega (arith, part-size, asks s)))
+
+slice-aggregate-half-at-2 : tie.Need-slice-aggregate-half-at-2
+slice-aggregate-half-at-2 c = search needs
+
+half-at-requires-2 : tie.Need-half-at-requires-2
+half-at-requires-2 c κs =
+    let s = c .before .before .before .before .before .before .before in
+    (s .pre .0 .0, (s .pre .0 .1, omega (arith, part-size, asks s)))
+
+width-of-requires : tie.Need-width-of-requires
+width-of-requires c κs = search needs
+
+abbrev begun : tie.After-width-of → tie.Start
+begun w = w .before .before .before .before .before .before .before .before .before .before
+
+wide : (w : tie.After-width-of) → w .width-of .result ≡ width (begun w .args .d)
+wide w = w .width-of .ensures ∙ width-met (begun w .args .d) (le-of-lt (begun w .pre .0 .0))
+
+-- the halves fit their buffers
+fits : (w : tie.After-width-of) → w .width-of .result + w .width-of .result ≤ partSize
+fits w = omega (arith, wide w, asks (begun w))
+
+add-s : tie.Need-add-s
+add-s c = omega (arith, part-size, fits c)
+
+sub-link-taken : tie.Need-sub-link-taken
+sub-link-taken c = search needs
+
+part-low-start : tie.Need-part-low-start
+part-low-start c = search needs
+
+part-low-end : tie.Need-part-low-end
+part-low-end c = omega (arith, part-size, fits c)
+
+sub-link-taken-2 : tie.Need-sub-link-taken-2
+sub-link-taken-2 c = search needs
+
+part-link-taken-start : tie.Need-part-link-taken-start
+part-link-taken-start c = search needs
+
+part-link-taken-end : tie.Need-part-link-taken-end
+part-link-taken-end c = omega (arith, part-size, fits (c .before .before))
+
+-- the part, and what lies at the front of a buffer where a half of it was taken to
+abbrev part-of : tie.After-width-of → List ℕ
+part-of w =
+    let a = begun w .args in
+    partAt (suc (a .d)) (a .a) (a .work .now)
+
+front : (w : tie.After-width-of) (b : Bool) (buffer buffer′ : List ℕ)
+    → buffer′ ≡ halfPart b (begun w .args .d) (part-of w) ++ drop (width (begun w .args .d) + width (begun w .args .d)) buffer
+    → take (w .width-of .result + w .width-of .result - 0) buffer′ ≡ halfPart b (begun w .args .d) (part-of w)
+front w b buffer buffer′ e =
+    let s = begun w in
+    half-is b (s .args .d) (s .args .a) (w .width-of .result + w .width-of .result - 0) (s .args .work .now) buffer buffer′
+    (omega (arith, wide w)) (s .pre .0 .1) e
+
+low : (w : tie.After-width-of)
+    → take (w .width-of .result + w .width-of .result - 0) (w .before .before .before .before .before .before .half-at .last .1 .1 .1 .1 .0)
+    ≡ halfPart false (begun w .args .d) (part-of w)
+low w = front w false _ _ (w .before .before .before .before .before .before .half-at .ensures)
+
+high : (w : tie.After-width-of)
+    → take (w .width-of .result + w .width-of .result - 0) (w .before .before .half-at2 .last .1 .1 .1 .1 .0)
+    ≡ halfPart true (begun w .args .d) (part-of w)
+high w = front w true _ _ (w .before .before .half-at2 .ensures)
+
+half-long : (w : tie.After-width-of) (b : Bool)
+    → length (halfPart b (begun w .args .d) (part-of w)) ≡ width (begun w .args .d) + width (begun w .args .d)
+half-long w b =
+    let s = begun w in
+    length-half b (s .args .d) (part-of w) (length-part (suc (s .args .d)) (s .args .a) (s .args .work .now) (s .pre .0 .1))
+
+link-taken-requires : tie.Need-link-taken-requires
+link-taken-requires c κs =
+    let w = c .before .before .before .before in
+    let s = begun w in
+    ((le-of-lt (s .pre .0 .0), ap length (low w) ∙ half-long w false, ap length (high w) ∙ half-long w true), (s .pre .1 .0, s .pre .1 .1))
 
 same-length : tie.Need-same-length
 same-length c = search needs
 
 returns : tie.Need-returns
 returns c =
-    let g = c .before .before in
-    let h = g .before .before .before .before in
-    let s = h .before .before .before in
-    let a = s .args in
-    both-linked (a .d) (a .a) (a .to) (a .k) (a .l) (a .work .now) (s .pre .1 .0) (s .pre .1 .1 .0 .0) (s .pre .1 .1 .0 .1)
-    (s .pre .1 .1 .1 .0) (s .pre .1 .1 .1 .1) (h .link-half .result) (g .link-half2 .result)
-    (h .link-half .last .1 .1 .1 .1 .1 .1 .0) (g .link-half2 .last .1 .1 .1 .1 .1 .1 .0)
-    (h .link-half .ensures .0) (h .link-half .ensures .1) (g .link-half2 .ensures .0) (g .link-half2 .ensures .1)
+    let t = c .before .before .before in
+    let w = t .before .before .before .before .before in
+    let a = begun w .args in
+    linked-as (a .d) (a .to) (a .k) (a .l) (t .link-taken .result) (a .work .now) (t .link-taken .last .1 .1 .1 .1 .1 .1 .0) _ _ _ _
+    (offered-is false (a .d) (part-of w) _ _ _ (high w) (low w) (low w))
+    (offered-is true (a .d) (part-of w) _ _ _ (high w) (low w) (high w))
+    (t .link-taken .ensures)
 
 pub link-halves-spec : {M : Type 1} → statement M
-link-halves-spec = tie.close (tie.spec link-half-requires add-second link-half-requires-2 same-length returns)
+link-halves-spec =
+    tie.close
+    (tie.spec
+    slice-aggregate-half-at
+    half-at-requires
+    slice-aggregate-half-at-2
+    half-at-requires-2
+    width-of-requires
+    add-s
+    sub-link-taken
+    part-low-start
+    part-low-end
+    sub-link-taken-2
+    part-link-taken-start
+    part-link-taken-end
+    link-taken-requires
+    same-length
+    returns)
