@@ -1,9 +1,9 @@
-/* Times the evaluation of rows with two builds of the library, in one run: one before a change and one after it.
+/* Times evaluating and counting with two builds of the library, in one run: one before a change and one after it.
  *
  *     cc -O2 bench/builds.c -Iinclude target/lib/libyavdocsil.a -ldl -o target/builds && target/builds BEFORE.so AFTER.so
  *
  * README.md says what is measured. The network is built by the library that this is linked with. It ends with 1 where a library or a call
- * is missing, a call is refused, or the answers of the two differ. */
+ * is missing, a call is refused, or the rows' answers or the tables read differ. Counts may: what a table with free rows takes is the filling's. */
 #include <dlfcn.h>
 #include <stdio.h>
 #include <string.h>
@@ -11,8 +11,11 @@
 
 enum { ROWS = 1 << INPUTS, TURNS = 400 };
 
-/* What is timed: all rows in sequence, as many at random, and a read, which follows every row of every output. */
-enum work { SEQUENCE, RANDOM, READ, WORKS };
+/* What is timed: all rows in sequence, as many at random, a read, which follows every row of every output, and counts of the table with
+ * less and less of its rows cared. */
+enum work { SEQUENCE, RANDOM, READ, COUNT, WORKS = COUNT + 4 };
+
+static const int percents[WORKS - COUNT] = {100, 90, 50, 20};
 
 /* One build: its calls, what they gave, and the best time of each work. */
 struct build {
@@ -20,16 +23,19 @@ struct build {
                      const uint16_t *, size_t);
     uint64_t (*read)(uint64_t *, size_t, const uint8_t *, size_t, uint8_t *, size_t, uint8_t *, size_t, uint8_t *, size_t,
                      uint16_t *, size_t, uint16_t *, size_t);
+    uint64_t (*count)(const uint64_t *, size_t, const uint8_t *, size_t, const uint8_t *, size_t, uint8_t *, size_t);
     uint16_t answers[ROWS];
     uint8_t values[YAV_TABLE_BYTES];
+    uint32_t cells[WORKS];
     double best[WORKS];
 };
 
 static struct build before, after, *timed;
+static enum work at;
 static uint16_t rows[ROWS], other_roots[YAV_ROOTS], other_cells[3 * YAV_MOST_CELLS];
-static uint8_t file[YAV_FILE_BYTES];
+static uint8_t file[YAV_FILE_BYTES], cares[WORKS][YAV_TABLE_BYTES];
 
-/* The two calls of the library at a path. */
+/* The calls of the library at a path. */
 static int open_build(struct build *build, const char *path)
 {
     void *library = dlopen(path, RTLD_NOW | RTLD_LOCAL);
@@ -37,9 +43,10 @@ static int open_build(struct build *build, const char *path)
         return 0;
     *(void **)&build->rows = dlsym(library, "yav_evaluate_rows");
     *(void **)&build->read = dlsym(library, "yav_read_cells");
+    *(void **)&build->count = dlsym(library, "yav_count");
     for (int work = 0; work < WORKS; work++)
         build->best[work] = 1e12;
-    return build->rows && build->read;
+    return build->rows && build->read && build->count;
 }
 
 static uint64_t evaluate_rows(void)
@@ -54,6 +61,23 @@ static uint64_t read_network(void)
                        work, YAV_WORK_BYTES, other_roots, YAV_ROOTS, other_cells, 3 * YAV_MOST_CELLS);
 }
 
+static uint64_t count_cells(void)
+{
+    uint64_t answer = timed->count(state, YAV_STATE_WORDS, values, YAV_TABLE_BYTES, cares[at], YAV_TABLE_BYTES, work, YAV_WORK_BYTES);
+    timed->cells[at] = yav_value(answer);
+    return answer;
+}
+
+/* Free rows are free in all outputs. */
+static void draw_cares(void)
+{
+    for (int i = COUNT; i < WORKS; i++)
+        for (int row = 0; row < ROWS; row++)
+            if (100 * drawn() < 256 * percents[i - COUNT])
+                for (int bit = row; bit < ROWS * OUTPUTS; bit += ROWS)
+                    cares[i][bit / 8] |= (uint8_t)(1 << bit % 8);
+}
+
 /* The rows of a turn are the same for both builds. */
 static void list_rows(enum work work)
 {
@@ -64,7 +88,9 @@ static void list_rows(enum work work)
 static void time_work(struct build *build, enum work work)
 {
     timed = build;
-    build->best[work] = less(build->best[work], microseconds(work == READ ? read_network : evaluate_rows, YAV_DONE));
+    at = work;
+    uint64_t (*calls)(void) = work < READ ? evaluate_rows : work == READ ? read_network : count_cells;
+    build->best[work] = less(build->best[work], microseconds(calls, YAV_DONE));
 }
 
 /* One turn of a work; the answers of both builds must be the same, and the table read the one drawn. */
@@ -73,9 +99,11 @@ static int turn(enum work work)
     list_rows(work);
     time_work(&before, work);
     time_work(&after, work);
+    if (work < READ)
+        return !memcmp(before.answers, after.answers, sizeof before.answers);
     if (work == READ)
         return !memcmp(before.values, values, sizeof values) && !memcmp(after.values, values, sizeof values);
-    return !memcmp(before.answers, after.answers, sizeof before.answers);
+    return 1;
 }
 
 /* In turn, so that what slows the machine slows both; the best is the one least disturbed. A refused call has a time below 0. */
@@ -90,6 +118,19 @@ static int timed_all(void)
     return 1;
 }
 
+static void say(void)
+{
+    static const char *const names[COUNT] = {"1024 rows in sequence", "1024 rows at random", "a read"};
+    for (int work = 0; work < WORKS; work++) {
+        if (work < COUNT)
+            printf("%s", names[work]);
+        else
+            printf("a count, %d %% cared, %u and %u cells", percents[work - COUNT], before.cells[work], after.cells[work]);
+        printf(": %.0f microseconds before, %.0f after, ratio %.2f\n", before.best[work], after.best[work],
+               after.best[work] / before.best[work]);
+    }
+}
+
 int main(int count, char **words)
 {
     if (count != 3 || !open_build(&before, words[1]) || !open_build(&after, words[2])) {
@@ -97,6 +138,7 @@ int main(int count, char **words)
         return 1;
     }
     draw();
+    draw_cares();
     uint64_t answer = built();
     uint64_t written = yav_write_cells(state, YAV_STATE_WORDS, roots, YAV_ROOTS, cells, 3 * YAV_MOST_CELLS, work, YAV_WORK_BYTES,
                                        file, YAV_FILE_BYTES);
@@ -104,10 +146,6 @@ int main(int count, char **words)
         fprintf(stderr, "a call is refused, or the answers differ\n");
         return 1;
     }
-    static const char *const names[WORKS] = {"1024 rows in sequence", "1024 rows at random", "a read"};
-    printf("cells %u\n", yav_value(answer));
-    for (int work = 0; work < WORKS; work++)
-        printf("%s: %.0f microseconds before, %.0f after, ratio %.2f\n", names[work], before.best[work], after.best[work],
-               after.best[work] / before.best[work]);
+    say();
     return 0;
 }
