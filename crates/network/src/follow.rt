@@ -5,7 +5,7 @@ ghost use mathlib.Core.Path.{_≡_};
 ghost use mathlib.Core.Bool.{true, cond};
 ghost use Prim.Native.Nat.{_≤_, _<_};
 ghost use lib.Dec.{T, eqb};
-ghost use lib.ListN.{take};
+ghost use lib.ListN.{length, getD, take};
 ghost use Rattle.diagram.specs.Lists.{flip, digit};
 ghost use Rattle.diagram.specs.Diagram.{edge, nodeAt, refers, gives};
 ghost use Rattle.diagram.specs.Bound.{mostVariables};
@@ -51,6 +51,14 @@ fn selected_edge(bit: usize, low: usize, high: usize) -> usize
     (1 - bit) * low + bit * high
 }
 
+// Number i of cells that were tested before they are followed: it needs no test of its own.
+fn tested_number(cells: &[u16], i: usize) -> usize
+    requires { ⌜ i < length (now cells) ⌝ }
+    ensures { λ x. ⌜ x ≡ getD (now (cells .entry)) i 0 ⌝ }
+{
+    cells[i] as usize
+}
+
 // The edge of the cell behind r for the bit at the cell's level. The bit stays a number: of a bool the compiler would make a jump.
 fn next(cells: &[u16], count: usize, n: usize, bits: usize, r: usize) -> usize
     requires { ⌜ Levelled n count (now cells) × ((2 ≤ r) × T (refers true (lentCells count (now cells)) r)) ⌝ }
@@ -59,9 +67,9 @@ fn next(cells: &[u16], count: usize, n: usize, bits: usize, r: usize) -> usize
         (nodeAt true (lentCells count (now (cells .entry))) r) ⌝ }
 {
     let first = 3 * (r / 2 - 1);
-    let p = lent_number(cells, first);
-    let low = lent_number(cells, first + 1);
-    let high = lent_number(cells, first + 2);
+    let p = tested_number(cells, first);
+    let low = tested_number(cells, first + 1);
+    let high = tested_number(cells, first + 2);
     selected_edge(bits >> p & 1, low, high)
 }
 

@@ -26,24 +26,30 @@ counted s =
 mul-first : tie.Need-mul-first
 mul-first c = omega (arith, counted (c .before), c .before .pre .0 .held)
 
-lent-number-requires : tie.Need-lent-number-requires
-lent-number-requires c κs = search needs
+tested-number-requires : tie.Need-tested-number-requires
+tested-number-requires c κs =
+    let s = c .before in
+    omega (arith, counted s, s .pre .0 .held)
 
-add-lent-number : tie.Need-add-lent-number
-add-lent-number c =
+add-tested-number : tie.Need-add-tested-number
+add-tested-number c =
     let s = c .before .before in
     omega (arith, counted s, s .pre .0 .held)
 
-lent-number-requires-2 : tie.Need-lent-number-requires-2
-lent-number-requires-2 c κs = search needs
+tested-number-requires-2 : tie.Need-tested-number-requires-2
+tested-number-requires-2 c κs =
+    let s = c .before .before in
+    omega (arith, counted s, s .pre .0 .held)
 
-add-lent-number-2 : tie.Need-add-lent-number-2
-add-lent-number-2 c =
+add-tested-number-2 : tie.Need-add-tested-number-2
+add-tested-number-2 c =
     let s = c .before .before .before in
     omega (arith, counted s, s .pre .0 .held)
 
-lent-number-requires-3 : tie.Need-lent-number-requires-3
-lent-number-requires-3 c κs = search needs
+tested-number-requires-3 : tie.Need-tested-number-requires-3
+tested-number-requires-3 c κs =
+    let s = c .before .before .before in
+    omega (arith, counted s, s .pre .0 .held)
 
 shr-selected-edge : tie.Need-shr-selected-edge
 shr-selected-edge c =
@@ -52,28 +58,28 @@ shr-selected-edge c =
     omega (
       arith,
       s .pre .0 .few,
-      c .before .before .lent-number .ensures .0,
+      c .before .before .tested-number .ensures,
       level-below (a .n) (a .count) (now (a .cells)) (s .pre .0) (a .r) (s .pre .1 .0) (s .pre .1 .1),
     )
 
 selected-edge-requires : tie.Need-selected-edge-requires
 selected-edge-requires c κs =
     let a = c .before .before .before .before .args in
-    let p = c .before .before .lent-number .result in
+    let p = c .before .before .tested-number .result in
     omega (arith, level-masked (a .bits) p, digit-le (levelBit (a .bits) p))
 
 returns : tie.Need-returns
 returns c =
     let s = c .before .before .before .before .before in
     let a = s .args in
-    let p = c .before .before .before .lent-number in
-    let low = c .before .before .lent-number2 in
-    let high = c .before .lent-number3 in
+    let p = c .before .before .before .tested-number in
+    let low = c .before .before .tested-number2 in
+    let high = c .before .tested-number3 in
     c .selected-edge .ensures
     ∙ edge-selected (levelBit (a .bits) (p .result)) (lentNode (now (a .cells)) (a .r / 2 - 1)) _ (low .result) (high .result)
-    (level-masked (a .bits) (p .result)) (low .ensures .0) (high .ensures .0)
+    (level-masked (a .bits) (p .result)) (low .ensures) (high .ensures)
     ∙ edge-behind (a .n) (a .count) (now (a .cells)) (s .pre .0) (a .r) (s .pre .1 .0) (s .pre .1 .1) (levelBit (a .bits))
-    (p .result) (p .ensures .0)
+    (p .result) (p .ensures)
 
 pub next-spec : {M : Type 1} → statement M
 next-spec =
@@ -81,11 +87,11 @@ next-spec =
     (tie.spec
     sub-first
     mul-first
-    lent-number-requires
-    add-lent-number
-    lent-number-requires-2
-    add-lent-number-2
-    lent-number-requires-3
+    tested-number-requires
+    add-tested-number
+    tested-number-requires-2
+    add-tested-number-2
+    tested-number-requires-3
     shr-selected-edge
     selected-edge-requires
     returns)
