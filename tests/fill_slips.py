@@ -22,6 +22,11 @@ def also(asked):
     return AGREE, f"{AGREE} and {asked}"
 
 
+def linked(both):
+    """An entry whose halves agree has these two links."""
+    return BOTH, BOTH.replace("[link, link]", both)
+
+
 def constant(half):
     return f"(is_constant({half}, 0) or is_constant({half}, 1))"
 
@@ -92,18 +97,12 @@ CANDIDATE_SLIPS = [
 ]
 
 LINK_SLIPS = [
-    ("halves: the 1-link is the 1-half's own", BOTH, BOTH.replace(
-        "[link, link]", "[link, link_of(one_half, entries)]")),
-    ("halves: the 0-link is the 0-half's own", BOTH, BOTH.replace(
-        "[link, link]", "[link_of(zero_half, entries), link]")),
-    ("halves: the 1-link is the constant 0", BOTH, BOTH.replace(
-        "[link, link]", '[link, ("constant", 0)]')),
-    ("halves: the 0-link is the constant 0", BOTH, BOTH.replace(
-        "[link, link]", '[("constant", 0), link]')),
-    ("halves: the 1-link is not inverted", BOTH, BOTH.replace(
-        "[link, link]", "[link, link[:-1] + (0,)]")),
-    ("halves: the 0-link is not inverted", BOTH, BOTH.replace(
-        "[link, link]", "[link[:-1] + (0,), link]")),
+    ("halves: the 1-link is the 1-half's own", *linked("[link, link_of(one_half, entries)]")),
+    ("halves: the 0-link is the 0-half's own", *linked("[link_of(zero_half, entries), link]")),
+    ("halves: the 1-link is the constant 0", *linked('[link, ("constant", 0)]')),
+    ("halves: the 0-link is the constant 0", *linked('[("constant", 0), link]')),
+    ("halves: the 1-link is not inverted", *linked("[link, link[:-1] + (0,)]")),
+    ("halves: the 0-link is not inverted", *linked("[link[:-1] + (0,), link]")),
     (
         "halves: always a new entry", PLACED,
         f"        entries.append({SINGLE})\n"
