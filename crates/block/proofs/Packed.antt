@@ -1,6 +1,6 @@
 -- Bits packed into a number one after the other, the first the lowest.
 -- Assumes nothing.
-use mathlib.Core.Path.{_≡_, sym, ap, ap₂, _∙_}
+use mathlib.Core.Path.{_≡_, refl, sym, ap, ap₂, _∙_}
 use mathlib.Core.Bool.{Bool, true, false}
 use Prim.Native.Nat.{ℕ, zero, suc, _+_, _*_, _/_, _%_, _^_, _<_}
 use native.Mathlib.Nat.{add-comm}
@@ -23,6 +23,11 @@ packed-lt (suc k) f = step (f k) (packed-lt k f)
     step : (b : Bool) → packed k f < 2 ^ k → packed k f + digit b * 2 ^ k < 2 ^ suc k
     step true h = omega arith
     step false h = omega arith
+
+-- bits that are the same one by one
+pub packed-cong : (k : ℕ) (f g : ℕ → Bool) → ((b : ℕ) → b < k → f b ≡ g b) → packed k f ≡ packed k g
+packed-cong zero f g e = refl
+packed-cong (suc k) f g e = ap₂ (λ x b. x + digit b * 2 ^ k) (packed-cong k f g (λ b h. e b (omega arith))) (e k (omega arith))
 
 -- one bit more
 module _ (k : ℕ) (f : ℕ → Bool) (byte : ℕ) (e : byte ≡ packed k f) where

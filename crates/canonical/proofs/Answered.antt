@@ -21,9 +21,9 @@ use Rattle.table.specs.declared.State.{State}
 use Rattle.table.specs.Answer.{done}
 use Rattle.table.specs.State.{orderOf, stageOf, isNothing, isNetwork}
 use Rattle.table.proofs.Accepted.{unless-done}
-use Rattle.network.specs.Lent.{lentNode, lentDiagram, rootsSize}
-use Rattle.network.specs.Evaluate.{goodCells}
-use Rattle.network.proofs.Answered.{network-held, followable, rooted}
+use Rattle.lent.specs.Lent.{lentNode, lentDiagram, rootsSize}
+use Rattle.lent.specs.Evaluate.{goodCells}
+use Rattle.lent.proofs.Answered.{network-held, followable, rooted}
 use Rattle.canonical.specs.Canonical.{canonicalAnswer}
 
 lent-count : (count m : ℕ) (cells roots : List ℕ) → length (lentDiagram count m cells roots .nodes) ≡ count

@@ -18,7 +18,7 @@ use Rattle.diagram.proofs.Bools.{split, to-T}
 use Rattle.diagram.proofs.Lists.{all-mapped}
 use Rattle.diagram.proofs.Equal.{node-equality}
 use Rattle.diagram.proofs.Numbers.{differ, below-other, all-upTo-fails}
-use Rattle.network.specs.Lent.{lentNode}
+use Rattle.lent.specs.Lent.{lentNode}
 use Rattle.canonical.specs.inner.Reduced.{lentNodes, isNew, reducedNodes, slots, slotOf, Slotted}
 use Rattle.diagram.proofs.Grown.{distinct-upTo, has-upTo-more, has-upTo-none, has-upTo-at}
 

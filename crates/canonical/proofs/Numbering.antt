@@ -13,9 +13,9 @@ use Rattle.diagram.specs.inner.Structure.{nodeOn, atLevel, targets, spread, sta
 use Rattle.diagram.proofs.Bools.{split, and-l, and-r}
 use Rattle.diagram.proofs.Lists.{eqb-equality, all-has, keep-cong, keep-length}
 use Rattle.diagram.proofs.Reference.{target-reference}
-use Rattle.network.specs.Lent.{lentNode, lentDiagram}
-use Rattle.network.specs.inner.Cells.{lentCells}
-use Rattle.network.proofs.Nodes.{lent-length, lent-at}
+use Rattle.lent.specs.Lent.{lentNode, lentDiagram}
+use Rattle.lent.specs.inner.Cells.{lentCells}
+use Rattle.lent.proofs.Nodes.{lent-length, lent-at}
 use Rattle.canonical.specs.declared.walk.Numbered.the-variants.{Next, Broken}
 use Rattle.canonical.specs.inner.Walk.{standsAt, lentStanding, lentSpread, isBelow, followed}
 

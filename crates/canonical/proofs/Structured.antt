@@ -15,9 +15,9 @@ use Rattle.diagram.specs.inner.Structure.{nodeReduced, allTargets, numbered, st
 use Rattle.diagram.proofs.Bools.{and-l, and-r, or-cases}
 use Rattle.diagram.proofs.Lists.{all-at}
 use Rattle.diagram.proofs.Numbers.{all-upTo-at}
-use Rattle.network.specs.Lent.{lentNode, lentDiagram}
-use Rattle.network.specs.inner.Cells.{lentCells}
-use Rattle.network.proofs.Nodes.{lent-length, all-nodes}
+use Rattle.lent.specs.Lent.{lentNode, lentDiagram}
+use Rattle.lent.specs.inner.Cells.{lentCells}
+use Rattle.lent.proofs.Nodes.{lent-length, all-nodes}
 use Rattle.canonical.specs.inner.Reduced.{lentNodes, reducedNodes}
 use Rattle.canonical.specs.inner.Walk.{Own}
 use Rattle.canonical.proofs.Numbering.{lent-numbered}

@@ -11,7 +11,7 @@ use lib.Seq.{length-take-le}
 use Rattle.diagram.specs.Lists.{all, firsts}
 use Rattle.diagram.specs.Bound.{mostVariables, mostNodes}
 use Rattle.diagram.specs.inner.Structure.{allTargets, numbered}
-use Rattle.network.specs.inner.Cells.{lentCells}
+use Rattle.lent.specs.inner.Cells.{lentCells}
 use Rattle.canonical.specs.declared.walk.Numbered.the-variants.{Next, Broken}
 use Rattle.canonical.specs.inner.Walk.{lentSpread, isBelow, Listed, Holds, followed}
 use Rattle.canonical.proofs.Listed.{listed-few}

@@ -12,8 +12,8 @@ use Rattle.table.specs.declared.Answer.the-variants.{Done, ShortBuffer, NoNetwo
 use Rattle.table.specs.declared.State.{State}
 use Rattle.table.specs.Answer.{unless}
 use Rattle.table.specs.State.{orderOf, stageOf, isNetwork}
-use Rattle.network.specs.Lent.{lentDiagram, rootsSize}
-use Rattle.network.specs.Evaluate.{goodCells}
+use Rattle.lent.specs.Lent.{lentDiagram, rootsSize}
+use Rattle.lent.specs.Evaluate.{goodCells}
 
 unfoldable pub canonicalAnswer : State → List ℕ → List ℕ → Answer
 canonicalAnswer s roots cells =

@@ -2,8 +2,8 @@
 use crate::reduced::reduced;
 use crate::walk::numbers_rise;
 use diagram::NODES;
-use network::ROOTS;
-use network::cells::good_cells;
+use lent::ROOTS;
+use lent::cells::good_cells;
 use table::Answer;
 use table::State;
 use table::valid::holds_network;
@@ -13,7 +13,7 @@ ghost use Prim.Native.Nat.{ℕ, _+_, _/_, _≤_, _<_};
 ghost use lib.ListN.{length, getD};
 ghost use Rattle.diagram.specs.Bound.{mostVariables, mostNodes};
 ghost use Rattle.diagram.specs.inner.Structure.{structured};
-ghost use Rattle.network.specs.Lent.{lentDiagram};
+ghost use Rattle.lent.specs.Lent.{lentDiagram};
 ghost use Rattle.canonical.specs.Canonical.{canonicalAnswer};
 ghost use Rattle.canonical.specs.inner.Walk.{Own};
 

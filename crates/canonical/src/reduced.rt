@@ -8,7 +8,7 @@ ghost use lib.ListN.{length};
 ghost use Rattle.diagram.specs.Lists.{has};
 ghost use Rattle.diagram.specs.Diagram.{sameNode};
 ghost use Rattle.diagram.specs.inner.Structure.{nodeReduced};
-ghost use Rattle.network.specs.Lent.{lentNode};
+ghost use Rattle.lent.specs.Lent.{lentNode};
 ghost use Rattle.canonical.specs.inner.Reduced.{lentNodes, isNew, reducedNodes, slots, slotOf, Slotted};
 
 // Whether the low edge of node i doesn't invert, and its two edges differ.

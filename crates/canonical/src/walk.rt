@@ -10,7 +10,7 @@ ghost use lib.ListN.{length, getD, take};
 ghost use Rattle.diagram.specs.Lists.{all, firsts};
 ghost use Rattle.diagram.specs.Bound.{mostVariables, mostNodes};
 ghost use Rattle.diagram.specs.inner.Structure.{targets, allTargets, numbered};
-ghost use Rattle.network.specs.inner.Cells.{lentCells};
+ghost use Rattle.lent.specs.inner.Cells.{lentCells};
 ghost use Rattle.canonical.specs.inner.Walk.{arrived, arrivedAll, lentSpread, Own, isBelow, Listed, Holds, followed};
 
 // The number after those of the nodes that stand at a level; Broken where they are not the next ones.

@@ -22,7 +22,7 @@ use Rattle.table.specs.Stream.{planeByte}
 use Rattle.table.specs.Calls.{planeSize, over, loadedOrder}
 use Rattle.fill.specs.Work.{zeroWork}
 use Rattle.fill.specs.Calls.{heldTable}
-use Rattle.network.specs.Lent.{rootsSize}
+use Rattle.lent.specs.Lent.{rootsSize}
 use Rattle.network.specs.Build.{capacity, longEnough, clears}
 use Rattle.cellfile.specs.File.{fileCount, fileRoot, cellNumber, fileDiagram, networkFileAnswer}
 

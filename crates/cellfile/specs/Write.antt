@@ -15,7 +15,7 @@ use Rattle.table.specs.declared.State.{State}
 use Rattle.table.specs.Answer.{unless, done}
 use Rattle.table.specs.Calls.{over}
 use Rattle.fill.specs.Work.{workSize, zeroWork}
-use Rattle.network.specs.Lent.{rootsSize}
+use Rattle.lent.specs.Lent.{rootsSize}
 use Rattle.canonical.specs.Canonical.{canonicalAnswer}
 use Rattle.cellfile.specs.File.{countAt, rootsAt, blockNumbers, cellBlocks, carriedNumbers}
 use Rattle.cellfile.specs.Read.{clearsChecked}

@@ -1,13 +1,13 @@
 // A network file's roots and cells, copied into lent numbers.
 use crate::numbers::cell_number;
 use crate::numbers::file_root;
-use network::ROOTS;
+use lent::ROOTS;
 ghost use mathlib.Core.Path.{_≡_};
 ghost use Prim.Native.Nat.{_*_, _≤_, _<_};
 ghost use lib.ListN.{length};
 ghost use Rattle.block.specs.Numbers.{numberLimit};
 ghost use Rattle.table.specs.Calls.{over};
-ghost use Rattle.network.specs.Lent.{rootsSize};
+ghost use Rattle.lent.specs.Lent.{rootsSize};
 ghost use Rattle.cellfile.specs.File.{fileRoot, cellNumber};
 
 // Copies all the roots.

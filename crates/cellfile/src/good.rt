@@ -10,8 +10,8 @@ ghost use Rattle.diagram.specs.Bound.{mostOutputs};
 ghost use Rattle.diagram.specs.Diagram.{later, refers, nodeGood, wellFormed};
 ghost use Rattle.block.specs.Numbers.{numberLimit};
 ghost use Rattle.table.specs.File.{fileOutputs};
-ghost use Rattle.network.specs.Lent.{lentNode};
-ghost use Rattle.network.specs.inner.Cells.{lentCells};
+ghost use Rattle.lent.specs.Lent.{lentNode};
+ghost use Rattle.lent.specs.inner.Cells.{lentCells};
 ghost use Rattle.cellfile.specs.File.{fileCount, fileDiagram};
 ghost use Rattle.cellfile.specs.inner.Cells.{fileCells, fileRoots};
 

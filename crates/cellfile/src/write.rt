@@ -4,7 +4,7 @@ use crate::blocks::write_blocks;
 use crate::work::clear_after;
 use canonical::canonical::canonical_answer;
 use fill::WORK;
-use network::ROOTS;
+use lent::ROOTS;
 use table::Answer;
 use table::State;
 use table::numbers::is_done;

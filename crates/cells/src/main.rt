@@ -1,9 +1,9 @@
 // Writes the network file of the table on standard input to standard output (document 02, 2.2).
 use cellfile::FILE;
 use fill::WORK;
+use lent::ROOTS;
 use libc::STDIN_FILENO;
 use libc::STDOUT_FILENO;
-use network::ROOTS;
 use printed::input::LONGEST;
 use printed::netfile::write_table;
 use printed::output::CELLS;

@@ -28,13 +28,13 @@ use Rattle.fill.specs.declared.Levels.{Levels}
 use Rattle.fill.specs.Work.{workSize, clearedWork, traceWork}
 use Rattle.fill.specs.Calls.{heldTable, countAnswer, levelsOf, linksWork}
 use Rattle.fill.proofs.Calls.Answers.{levels-answer}
-use Rattle.network.specs.Lent.{lentDiagram, rootsSize}
+use Rattle.lent.specs.Lent.{lentDiagram, rootsSize}
+use Rattle.lent.proofs.Sizes.{roots-size}
 use Rattle.network.specs.inner.Levels.{storedLimit, made, levelAt, levelsMade, rootAt}
 use Rattle.network.specs.Build.{wanted, capacity, reachesBoard, networkState, clears, buildOutcome, buildRoots, buildCells}
 use Rattle.network.specs.Build.{buildWork, Built}
 use Rattle.network.proofs.HeldRead.{kss, heldEntries, heldCounts}
 use Rattle.network.proofs.LentNetwork.{built-lent, fit-held}
-use Rattle.network.proofs.RootTurns.{roots-size}
 use Rattle.network.proofs.Laid.{links-cleared, ready-end, ready-long, ready-total, ready-few, ready-next, laid-work, laid-cells}
 use Rattle.network.proofs.Laid.{laid-roots}
 use Rattle.network.proofs.Outcomes.{roots-short, short-reaches, count-refused, refused-reaches, count-done}

@@ -17,16 +17,16 @@ use Rattle.diagram.proofs.Demands.{right}
 use Rattle.table.specs.declared.State.{State}
 use Rattle.table.specs.declared.Answer.the-variants.{Done}
 use Rattle.block.specs.Bits.{packed}
+use Rattle.block.proofs.Packed.{packed-cong}
 use Rattle.table.specs.State.{goodHeading, orderOf, stageOf, isNothing, isNetwork}
 use Rattle.table.specs.Calls.{over}
 use Rattle.table.proofs.Held.{few-outputs, stage-bad}
 use Rattle.table.proofs.Over.{length-over, getD-over}
 use Rattle.fill.specs.Calls.{heldTable}
-use Rattle.reorder.proofs.DrawnBytes.{gathered-cong}
-use Rattle.network.specs.Lent.{lentDiagram, numbersOf, rootsSize}
-use Rattle.network.specs.Evaluate.{goodCells, rowOutputs, evaluateAnswer}
+use Rattle.lent.specs.Lent.{lentDiagram, numbersOf, rootsSize}
+use Rattle.lent.specs.Evaluate.{goodCells, rowOutputs, evaluateAnswer}
+use Rattle.lent.proofs.Sizes.{roots-size}
 use Rattle.network.specs.Build.{heldNetwork, wanted, networkState}
-use Rattle.network.proofs.RootTurns.{roots-size}
 use Rattle.network.proofs.LentNetwork.{cells-enough, lent-network}
 
 -- the state that a build leaves holds a network
@@ -74,7 +74,7 @@ module _ (s : State) (values care roots cells : List ℕ) (held : T (not (isNoth
   unfolding rowOutputs heldNetwork Computes
   built-row =
       let D = lentDiagram (wanted s values care) (s .m) (builtCells s values care cells) (builtRoots s values care roots) in
-      gathered-cong (s .m) (λ j. gives true D (rowUnder (s .n) (orderOf s) row) (s .n) (getD (builtRoots s values care roots) j 0))
+      packed-cong (s .m) (λ j. gives true D (rowUnder (s .n) (orderOf s) row) (s .n) (getD (builtRoots s values care roots) j 0))
       (λ j. filledBit true (heldTable s values care) (orderOf s) j row)
       (λ j h.
       ap₂ (λ (E : Diagram) (r : ℕ). gives true E (rowUnder (s .n) (orderOf s) row) (s .n) r) (lent-network s values care held cells roots)

@@ -35,7 +35,7 @@ use Rattle.fill.specs.Calls.{heldTable, drawnOutputs, entryCounts, perLevel}
 use Rattle.fill.proofs.Room.LinksRoom.{linksLimit, links-room}
 use Rattle.fill.proofs.Counting.PerLevel.{per-level-at}
 use Rattle.fill.proofs.Buffers.Sizes.{work-size}
-use Rattle.network.specs.Lent.{numbersOf, rootsSize}
+use Rattle.lent.specs.Lent.{numbersOf, rootsSize}
 use Rattle.network.specs.Build.{heldNetwork, wanted}
 use Rattle.network.specs.inner.Levels.{Made, made, levelAt, levelsMade, rootAt}
 use Rattle.network.proofs.LinkRefs.{Links, links-kept, links-split, links-refs}

@@ -13,7 +13,7 @@ use Rattle.block.specs.Bits.{sumBelow}
 use Rattle.table.specs.Calls.{over}
 use Rattle.fill.specs.Work.{workSize, traceWork, zeroWork, clearedWork}
 use Rattle.fill.proofs.Buffers.Sizes.{work-size}
-use Rattle.network.specs.Lent.{numbersOf, rootsSize}
+use Rattle.lent.specs.Lent.{numbersOf, rootsSize}
 use Rattle.network.specs.Build.{heldNetwork, wanted}
 use Rattle.network.specs.inner.Levels.{storedLimit, Made, made, levelAt, levelsMade, rootAt}
 use Rattle.network.proofs.Offsets.{links-at}

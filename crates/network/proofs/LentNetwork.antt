@@ -26,9 +26,9 @@ use Rattle.table.specs.Calls.{over}
 use Rattle.table.proofs.Held.{few-outputs, ordered}
 use Rattle.table.proofs.Over.{getD-over}
 use Rattle.fill.specs.Calls.{heldTable}
-use Rattle.network.specs.Lent.{lentNode, lentDiagram, numbersOf, rootsSize}
+use Rattle.lent.specs.Lent.{lentNode, lentDiagram, numbersOf, rootsSize}
+use Rattle.lent.proofs.Sizes.{roots-size}
 use Rattle.network.specs.Build.{heldNetwork, wanted, capacity, Built}
-use Rattle.network.proofs.RootTurns.{roots-size}
 use Rattle.network.proofs.HeldRead.{wanted-nodes}
 use Rattle.network.proofs.LevelsRead.{numbers-length}
 

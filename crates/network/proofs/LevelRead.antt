@@ -18,7 +18,7 @@ use Rattle.diagram.specs.inner.Trace.{sameLink, differing, linkRef, entryRefs, 
 use Rattle.diagram.proofs.Bools.{split}
 use Rattle.diagram.proofs.Rising.{AllValid}
 use Rattle.fill.specs.Work.{linkNumber}
-use Rattle.network.specs.Lent.{numbersOf}
+use Rattle.lent.specs.Lent.{numbersOf}
 use Rattle.network.specs.inner.Levels.{storedAt, putStored, refAt, Made, passed, noded, entryMade, levelMade}
 use Rattle.network.proofs.Words.{Outside, same-word, outside-none, outside-join, outside-put, word-put}
 use Rattle.network.proofs.LinkRefs.{Links, Slots, links-kept, slots-kept, numbers-same, number-ref}

@@ -15,7 +15,7 @@ use Rattle.diagram.specs.inner.Trace.{differing, entryNodes, tracedRefs, traced
 use Rattle.diagram.proofs.Rising.{AllValid}
 use Rattle.block.specs.Bits.{sumBelow}
 use Rattle.fill.specs.Work.{allLinks}
-use Rattle.network.specs.Lent.{numbersOf}
+use Rattle.lent.specs.Lent.{numbersOf}
 use Rattle.network.specs.inner.Levels.{Made, made, levelMade, levelAt, levelsMade}
 use Rattle.network.proofs.Words.{Outside, outside-none, outside-join, sets-append}
 use Rattle.network.proofs.LinkRefs.{Links, Slots, links-kept, links-split}

@@ -22,11 +22,11 @@ use Rattle.table.specs.State.{orderOf, stageOf, isNothing}
 use Rattle.table.specs.Calls.{planeSize, over}
 use Rattle.fill.specs.Work.{workSize, traceWork, zeroWork}
 use Rattle.fill.specs.Calls.{heldTable, enough, countAnswer, levelsOf, linksWork, entryCounts, drawnOutputs, perLevel}
-use Rattle.network.specs.Lent.{numbersOf, rootsSize}
+use Rattle.lent.specs.Lent.{numbersOf, rootsSize}
+use Rattle.lent.proofs.Sizes.{roots-size}
 use Rattle.network.specs.Build.{heldNetwork, wanted, capacity, longEnough, networkState, reachesBoard, clears, buildAnswer}
 use Rattle.network.specs.Build.{buildOutcome}
 use Rattle.network.specs.Build.{buildRoots, buildCells, buildWork}
-use Rattle.network.proofs.RootTurns.{roots-size}
 
 and-last : (a b c d : Bool) → d ≡ false → (a && (b && (c && d))) ≡ false
 and-last true true true d e = e

@@ -19,7 +19,7 @@ use Rattle.table.specs.State.{orderOf, stageOf, isNothing}
 use Rattle.table.specs.Calls.{planeSize, over}
 use Rattle.fill.specs.Work.{workSize, zeroWork}
 use Rattle.fill.specs.Calls.{heldTable}
-use Rattle.network.specs.Lent.{numbersOf, rootsSize}
+use Rattle.lent.specs.Lent.{numbersOf, rootsSize}
 
 -- section 4's network of the table in the lent bytes, under the state's order
 unfoldable pub heldNetwork : State → List ℕ → List ℕ → Diagram

@@ -1,5 +1,4 @@
 // Building section 4's network in lent cells.
-use crate::ROOTS;
 use crate::levels::links_end;
 use crate::levels::read_levels;
 use crate::roots::write_roots;
@@ -7,6 +6,7 @@ use diagram::VARIABLES;
 use fill::LINKS;
 use fill::clear;
 use fill::links;
+use lent::ROOTS;
 use table::Answer;
 use table::Outcome;
 use table::Stage;
@@ -24,7 +24,7 @@ ghost use Rattle.block.specs.Bits.{sumBelow};
 ghost use Rattle.table.specs.Calls.{over};
 ghost use Rattle.fill.specs.Work.{workSize, clearedWork};
 ghost use Rattle.fill.specs.Calls.{heldTable};
-ghost use Rattle.network.specs.Lent.{lentDiagram, rootsSize};
+ghost use Rattle.lent.specs.Lent.{lentDiagram, rootsSize};
 ghost use Rattle.network.specs.inner.Levels.{storedLimit, made, levelAt, levelsMade, rootAt};
 ghost use Rattle.network.specs.Build.{capacity, reachesBoard, networkState, buildOutcome, buildRoots, buildCells, buildWork, Built};
 

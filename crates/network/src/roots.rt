@@ -1,15 +1,15 @@
 // The roots, read off the links of the outputs.
-use crate::ROOTS;
 use crate::links::link_ref;
 use crate::links::stored_at;
 use fill::LINKS;
+use lent::ROOTS;
 ghost use mathlib.Core.Path.{_≡_};
 ghost use Prim.Native.Nat.{_<_, _≤_};
 ghost use lib.ListN.{length};
 ghost use Rattle.diagram.specs.Bound.{mostOutputs};
 ghost use Rattle.table.specs.Calls.{over};
 ghost use Rattle.fill.specs.Work.{workSize};
-ghost use Rattle.network.specs.Lent.{rootsSize};
+ghost use Rattle.lent.specs.Lent.{rootsSize};
 ghost use Rattle.network.specs.inner.Levels.{storedLimit, rootAt};
 
 // The root of output j, of m; zero past them.

@@ -1,8 +1,8 @@
 // Prints the network of the table on standard input (document 01, section 8).
 use fill::WORK;
+use lent::ROOTS;
 use libc::STDIN_FILENO;
 use libc::STDOUT_FILENO;
-use network::ROOTS;
 use printed::input::LONGEST;
 use printed::output::CELLS;
 use printed::output::TEXT;

@@ -14,7 +14,7 @@ use Rattle.table.specs.declared.State.{State}
 use Rattle.table.specs.State.{stageOf, isNothing}
 use Rattle.table.specs.Calls.{planeSize}
 use Rattle.fill.specs.Work.{workSize}
-use Rattle.network.specs.Lent.{rootsSize}
+use Rattle.lent.specs.Lent.{rootsSize}
 use Rattle.network.specs.Build.{wanted, capacity, buildAnswer}
 use Rattle.network.proofs.HeldRead.{few-wanted}
 use Rattle.printed.specs.Input.{inputValues, inputCare}

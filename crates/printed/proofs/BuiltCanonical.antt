@@ -16,7 +16,7 @@ use Rattle.table.specs.declared.State.{State}
 use Rattle.table.specs.State.{orderOf, stageOf, isNothing}
 use Rattle.table.proofs.Held.{ordered}
 use Rattle.fill.specs.Calls.{heldTable}
-use Rattle.network.specs.Lent.{lentDiagram, rootsSize}
+use Rattle.lent.specs.Lent.{lentDiagram, rootsSize}
 use Rattle.network.specs.Build.{heldNetwork, wanted, networkState}
 use Rattle.network.proofs.LentNetwork.{lent-network}
 use Rattle.network.proofs.BuiltRows.{builtCells, builtRoots, network-stage, good-built, roots-built}

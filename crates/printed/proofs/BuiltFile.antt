@@ -21,7 +21,7 @@ use Rattle.table.specs.Stream.{tableOf}
 use Rattle.table.specs.File.{fileInputs, fileOutputs, fileAnswer}
 use Rattle.table.specs.Calls.{planeSize, over, loadAnswer, loadedState, loadOutcome, loadValues, loadCare}
 use Rattle.fill.specs.Work.{workSize, zeroWork}
-use Rattle.network.specs.Lent.{numbersOf, rootsSize}
+use Rattle.lent.specs.Lent.{numbersOf, rootsSize}
 use Rattle.network.specs.Build.{networkState, heldNetwork, wanted, capacity, buildAnswer}
 use Rattle.network.proofs.HeldRead.{wanted-nodes}
 use Rattle.network.proofs.Outcomes.{done-outcome, done-roots, done-cells, work-cleared}

@@ -13,7 +13,7 @@ use Rattle.table.specs.Answer.{done}
 use Rattle.table.specs.File.{fileInputs, fileOutputs}
 use Rattle.table.specs.Calls.{planeSize, loadedState}
 use Rattle.fill.specs.Work.{workSize}
-use Rattle.network.specs.Lent.{numbersOf, rootsSize}
+use Rattle.lent.specs.Lent.{numbersOf, rootsSize}
 use Rattle.text.specs.Text.{inputs-word, outputs-word, line, orderLine, totalLines, networkLines}
 use Rattle.printed.specs.Input.{inputAnswer, inputCare}
 use Rattle.printed.specs.Built.{

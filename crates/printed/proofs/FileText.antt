@@ -20,10 +20,10 @@ use Rattle.table.specs.State.{orderOf, stageOf, isNothing}
 use Rattle.table.specs.Calls.{planeSize, over, caredAnswer}
 use Rattle.table.proofs.Held.{stage-good, held-heading, few-inputs, few-outputs}
 use Rattle.table.proofs.Over.{getD-over}
-use Rattle.network.specs.Lent.{numbersOf, rootsSize}
+use Rattle.lent.specs.Lent.{numbersOf, rootsSize}
+use Rattle.lent.proofs.Sizes.{roots-size}
 use Rattle.network.specs.Build.{networkState}
 use Rattle.network.proofs.LevelsRead.{numbers-length}
-use Rattle.network.proofs.RootTurns.{roots-size}
 use Rattle.text.specs.Text.{
   inputs-word,
   outputs-word,

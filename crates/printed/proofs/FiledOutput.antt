@@ -18,11 +18,11 @@ use Rattle.table.proofs.Held.{few-outputs}
 use Rattle.table.proofs.Over.{length-over, getD-over}
 use Rattle.fill.specs.Work.{workSize, zeroWork}
 use Rattle.fill.proofs.Buffers.HeldParts.{zero-zero, length-zero}
-use Rattle.network.specs.Lent.{numbersOf, rootsSize}
+use Rattle.lent.specs.Lent.{numbersOf, rootsSize}
+use Rattle.lent.proofs.Sizes.{roots-size}
 use Rattle.network.specs.Build.{networkState, heldNetwork, wanted}
 use Rattle.network.proofs.HeldRead.{wanted-nodes, few-wanted}
 use Rattle.network.proofs.LevelsRead.{numbers-length}
-use Rattle.network.proofs.RootTurns.{roots-size}
 use Rattle.canonical.specs.Canonical.{canonicalAnswer}
 use Rattle.cellfile.specs.Write.{fileSize, writeAnswer, writeWork}
 use Rattle.printed.specs.Input.{inputAnswer}

@@ -24,7 +24,7 @@ use Rattle.table.specs.Calls.{planeSize, over, caredAnswer}
 use Rattle.table.proofs.Held.{few-inputs, few-outputs, few-bits, ordered}
 use Rattle.table.proofs.Variants.{number-few}
 use Rattle.fill.specs.Work.{workSize}
-use Rattle.network.specs.Lent.{numbersOf, rootsSize}
+use Rattle.lent.specs.Lent.{numbersOf, rootsSize}
 use Rattle.network.specs.Build.{networkState}
 use Rattle.network.specs.Build.{heldNetwork, wanted, capacity, buildAnswer, buildOutcome, buildRoots, buildCells}
 use Rattle.network.proofs.HeldRead.{few-wanted}

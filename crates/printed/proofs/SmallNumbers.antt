@@ -21,10 +21,10 @@ use Rattle.table.specs.Calls.{over}
 use Rattle.table.proofs.Held.{few-inputs, few-outputs}
 use Rattle.table.proofs.Over.{getD-over}
 use Rattle.fill.specs.Calls.{heldTable}
-use Rattle.network.specs.Lent.{numbersOf, rootsSize}
+use Rattle.lent.specs.Lent.{numbersOf, rootsSize}
+use Rattle.lent.proofs.Sizes.{roots-size}
 use Rattle.network.specs.Build.{heldNetwork, wanted}
 use Rattle.network.proofs.HeldRead.{wanted-nodes, few-wanted}
-use Rattle.network.proofs.RootTurns.{roots-size}
 
 -- a reference to one of k nodes is at most 2 k + 1
 

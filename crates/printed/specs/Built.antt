@@ -15,7 +15,7 @@ use Rattle.table.specs.Stream.{tableOf}
 use Rattle.table.specs.File.{fileInputs, fileOutputs, fileOrder, streamBlocks}
 use Rattle.table.specs.Calls.{over, loadedState, loadedPlane}
 use Rattle.fill.specs.Work.{zeroWork}
-use Rattle.network.specs.Lent.{numbersOf, rootsSize}
+use Rattle.lent.specs.Lent.{numbersOf, rootsSize}
 use Rattle.network.specs.Build.{networkState}
 use Rattle.text.specs.Text.{line}
 use Rattle.printed.specs.Input.{inputAnswer}

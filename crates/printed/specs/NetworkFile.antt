@@ -7,7 +7,7 @@ use Rattle.diagram.specs.Lists.{upTo}
 use Rattle.block.specs.Block.{blockSize}
 use Rattle.table.specs.declared.State.{State}
 use Rattle.table.specs.Answer.{done}
-use Rattle.network.specs.Lent.{numbersOf}
+use Rattle.lent.specs.Lent.{numbersOf}
 use Rattle.cellfile.specs.File.{cellBlocks}
 use Rattle.cellfile.specs.Write.{fileByte}
 use Rattle.printed.specs.Input.{inputAnswer}

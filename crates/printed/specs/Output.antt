@@ -7,7 +7,7 @@ use lib.ListN.{length}
 use Rattle.table.specs.Answer.{done}
 use Rattle.table.specs.Stream.{caredBits}
 use Rattle.table.specs.File.{fileInputs, fileOutputs, fileOrder}
-use Rattle.network.specs.Lent.{numbersOf}
+use Rattle.lent.specs.Lent.{numbersOf}
 use Rattle.text.specs.Text.{inputs-word, outputs-word, line, orderLine, totalLines, networkLines}
 use Rattle.printed.specs.Input.{inputAnswer}
 use Rattle.printed.specs.Built.{refusedLine, carePlane, fileNetwork}

@@ -8,7 +8,7 @@ use cellfile::FILE;
 use cellfile::write::write_cells;
 use diagram::NODES;
 use fill::WORK;
-use network::ROOTS;
+use lent::ROOTS;
 use table::Outcome;
 use table::PLANE;
 use table::State;

@@ -3,7 +3,7 @@ use crate::built::build_input;
 use crate::refusal::refusal;
 use diagram::NODES;
 use fill::WORK;
-use network::ROOTS;
+use lent::ROOTS;
 use table::Outcome;
 use table::PLANE;
 use table::State;

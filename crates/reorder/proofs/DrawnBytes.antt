@@ -1,9 +1,9 @@
 -- The packed rows of a drawn function: each byte is gathered from the rows in turn, the lowest bit first.
 -- Assumes nothing.
-use mathlib.Core.Path.{_≡_, refl, sym, ap, ap₂, _∙_}
+use mathlib.Core.Path.{_≡_, sym, ap, ap₂, _∙_}
 use mathlib.Core.Bool.{Bool}
 use mathlib.Core.List.{[], _∷_, _++_, map}
-use Prim.Native.Nat.{ℕ, zero, suc, _+_, _*_, _^_, _≤_, _<_, min}
+use Prim.Native.Nat.{ℕ, zero, suc, _+_, _*_, _^_, _≤_, min}
 use native.Mathlib.Nat.{not-suc-le-zero, add-zero, zero-add, add-suc, mul-zero, two-pow-succ, min-eq-left, min-eq-right, le-of-lt}
 use native.Mathlib.Omega.{arith}
 use lib.Pow.{pow-add, pow-mono}
@@ -13,12 +13,8 @@ use Rattle.diagram.proofs.UpTo.{map-upTo-cong, map-upTo-add}
 use Rattle.reorder.specs.Sizes.{width}
 use Rattle.reorder.specs.inner.Pack.{num, pack}
 use Rattle.block.specs.Bits.{packed}
+use Rattle.block.proofs.Packed.{packed-cong}
 use Rattle.reorder.proofs.Pack.{width-small, width-suc, width-rows, by-width, pack-small, pack-node}
-
-pub gathered-cong : (k : ℕ) (f g : ℕ → Bool) → ((b : ℕ) → b < k → f b ≡ g b) → packed k f ≡ packed k g
-gathered-cong zero f g e = refl
-gathered-cong (suc k) f g e =
-    ap₂ (λ x b. x + digit b * 2 ^ k) (gathered-cong k f g (λ b h. e b (omega arith))) (e k (omega arith))
 
 pub gathered-add : (m n : ℕ) (f : ℕ → Bool) → packed (m + n) f ≡ packed n (λ b. f (m + b)) * 2 ^ m + packed m f
 gathered-add m zero f = ap (λ k. packed k f) (add-zero m) ∙ omega arith
@@ -30,7 +26,7 @@ from-zero : (d b : ℕ) → 2 ^ d * 0 + b ≡ b
 from-zero d b = omega (arith, mul-zero (2 ^ d))
 
 one-byte : (n : ℕ) (g : ℕ → Bool) → packed n g ∷ [] ≡ map (λ j. packed n (λ b. g (8 * j + b))) (upTo 1)
-one-byte n g = ap (λ x. x ∷ []) (gathered-cong n g (λ b. g (0 + b)) (λ b h. ap g (sym (zero-add b))))
+one-byte n g = ap (λ x. x ∷ []) (packed-cong n g (λ b. g (0 + b)) (λ b h. ap g (sym (zero-add b))))
 
 module _ {A : Type 0} (p : A → Bool) where
   -- where the rows of the halves stand among all rows
@@ -53,8 +49,8 @@ module _ {A : Type 0} (p : A → Bool) where
       let g : ℕ → Bool = λ b. p (f (2 ^ suc d * s + b)) in
       ap₂ (λ x y. x * 2 ^ (2 ^ d) + y)
       (num-draw d f (2 * s + 1)
-      ∙ gathered-cong (2 ^ d) (λ b. p (f (2 ^ d * (2 * s + 1) + b))) (λ b. g (2 ^ d + b)) (λ b h. row-high f d s b))
-      (num-draw d f (2 * s) ∙ gathered-cong (2 ^ d) (λ b. p (f (2 ^ d * (2 * s) + b))) g (λ b h. row-low f d s b))
+      ∙ packed-cong (2 ^ d) (λ b. p (f (2 ^ d * (2 * s + 1) + b))) (λ b. g (2 ^ d + b)) (λ b h. row-high f d s b))
+      (num-draw d f (2 * s) ∙ packed-cong (2 ^ d) (λ b. p (f (2 ^ d * (2 * s) + b))) g (λ b h. row-low f d s b))
       ∙ sym (gathered-add (2 ^ d) (2 ^ d) g) ∙ ap (λ k. packed k g) (sym (two-pow-succ d))
 
   -- up to three variables: one byte
@@ -76,11 +72,11 @@ module _ {A : Type 0} (p : A → Bool) where
       pack-node p (draw d f (2 * s)) (draw d f (2 * s + 1)) k
       ∙ ap₂ _++_
       (draw-large d f (2 * s) k
-      ∙ map-upTo-cong (width d) _ byte (λ j h. gathered-cong 8 _ (λ b. p (f (2 ^ suc d * s + (8 * j + b))))
+      ∙ map-upTo-cong (width d) _ byte (λ j h. packed-cong 8 _ (λ b. p (f (2 ^ suc d * s + (8 * j + b))))
       (λ b h. row-low f d s (8 * j + b))))
       (draw-large d f (2 * s + 1) k
       ∙ map-upTo-cong (width d) _ (λ j. byte (width d + j))
-      (λ j h. gathered-cong 8 _ (λ b. p (f (2 ^ suc d * s + (8 * (width d + j) + b))))
+      (λ j h. packed-cong 8 _ (λ b. p (f (2 ^ suc d * s + (8 * (width d + j) + b))))
       (λ b h. let q : 2 ^ d + (8 * j + b) ≡ 8 * (width d + j) + b = omega arith in
       row-high f d s (8 * j + b) ∙ ap (λ n. p (f (2 ^ suc d * s + n))) q)))
       ∙ sym (map-upTo-add byte (width d) (width d)) ∙ ap (λ n. map byte (upTo n)) (sym (width-suc d k)))
@@ -93,11 +89,11 @@ module _ {A : Type 0} (p : A → Bool) where
       (λ l. let k : d ≤ 3 = le-of-lt l in
       let n : min 8 (2 ^ d) ≡ 2 ^ d = min-eq-right (pow-mono {j = 3} k) in
       draw-small d f 0 k
-      ∙ ap (λ x. x ∷ []) (gathered-cong (2 ^ d) _ (λ b. p (f b)) (λ b h. ap (λ n. p (f n)) (from-zero d b)))
+      ∙ ap (λ x. x ∷ []) (packed-cong (2 ^ d) _ (λ b. p (f b)) (λ b h. ap (λ n. p (f n)) (from-zero d b)))
       ∙ one-byte (2 ^ d) (λ b. p (f b))
       ∙ ap₂ (λ m w. map (λ j. packed m (λ b. p (f (8 * j + b)))) (upTo w)) (sym n) (sym (width-small d k)))
       (λ k. let n : min 8 (2 ^ d) ≡ 8 = min-eq-left (pow-mono {i = 3} k) in
       draw-large d f 0 k
       ∙ map-upTo-cong (width d) _ (λ j. packed 8 (λ b. p (f (8 * j + b))))
-      (λ j h. gathered-cong 8 _ (λ b. p (f (8 * j + b))) (λ b h. ap (λ n. p (f n)) (from-zero d (8 * j + b))))
+      (λ j h. packed-cong 8 _ (λ b. p (f (8 * j + b))) (λ b h. ap (λ n. p (f n)) (from-zero d (8 * j + b))))
       ∙ ap (λ m. map (λ j. packed m (λ b. p (f (8 * j + b)))) (upTo (width d))) (sym n))

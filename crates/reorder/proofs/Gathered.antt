@@ -18,13 +18,14 @@ use Rattle.diagram.specs.Table.{reordered}
 use Rattle.diagram.proofs.Bits.{number-cong}
 use Rattle.diagram.proofs.UpTo.{map-upTo-cong, getD-map-upTo, length-map-upTo}
 use Rattle.block.specs.Bits.{streamBit, packed}
+use Rattle.block.proofs.Packed.{packed-cong}
 use Rattle.table.specs.Stream.{tableOf}
 use Rattle.table.proofs.Filled.{filled}
 use Rattle.reorder.specs.Sizes.{width, mostRows, partSize}
 use Rattle.reorder.specs.inner.Pack.{pack, encode}
 use Rattle.reorder.specs.Gather.{rowMap, gatheredPlane, gatheredPart, outputPart}
 use Rattle.reorder.specs.inner.Rows.{variableLevels, rowOf}
-use Rattle.reorder.proofs.DrawnBytes.{gathered-cong, draw-bytes}
+use Rattle.reorder.proofs.DrawnBytes.{draw-bytes}
 use Rattle.reorder.proofs.Shifts.{rows-room, byte-within}
 
 module _ (n : ℕ) (order : List ℕ) (fits : n ≤ mostVariables) where
@@ -62,7 +63,7 @@ module _ (n : ℕ) (order : List ℕ) (fits : n ≤ mostVariables) where
       let k : ℕ = min 8 (2 ^ n) in
       map-upTo-cong (width n) (λ i. packed k (λ b. streamBit plane (base + getD (rowMap n order) (8 * i + b) 0)))
       (λ i. packed k (λ b. p (row (behind n (take n order) (8 * i + b)))))
-      (λ i h. gathered-cong k _ (λ b. p (row (behind n (take n order) (8 * i + b))))
+      (λ i h. packed-cong k _ (λ b. p (row (behind n (take n order) (8 * i + b))))
       (λ b q. let r : 8 * i + b < 2 ^ n = omega (arith, byte-within n i h) in
       ap (λ x. streamBit plane (base + x)) (map-at (8 * i + b) r) ∙ e (behind n (take n order) (8 * i + b))))
       ∙ sym (draw-bytes p n (λ s. row (behind n (take n order) s)))

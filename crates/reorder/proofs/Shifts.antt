@@ -3,15 +3,16 @@
 -- Assumes nothing.
 use mathlib.Core.Path.{_≡_, refl, sym, ap, _∙_}
 use mathlib.Core.Bool.{Bool, cond}
-use Prim.Native.Nat.{ℕ, suc, _+_, _*_, _-_, _/_, _%_, _^_, _≤_, _<_, min}
+use Prim.Native.Nat.{ℕ, _+_, _*_, _-_, _/_, _%_, _^_, _≤_, _<_, min}
 use native.Mathlib.Nat.{lt-of-lt-of-le, min-eq-left, min-eq-right, le-of-lt, div-one}
 use native.Mathlib.Omega.{arith}
 use borrow.Author.Tests.{le-leb, lt-leb}
-use lib.Bits.{bitAnd, and-mask}
+use lib.Bits.{bitAnd}
 use lib.Pow.{pow-add, pow-mono, shl-lt}
 use Rattle.diagram.specs.Lists.{digit, bit}
 use Rattle.diagram.specs.Bound.{mostVariables, mostOutputs}
-use Rattle.diagram.proofs.Bits.{digit-eqb, one-shifted}
+use Rattle.diagram.proofs.Bits.{one-shifted}
+use Rattle.block.proofs.StreamBits.{bit-masked}
 use Rattle.table.proofs.Answers.{shifted-out}
 use Rattle.reorder.specs.Sizes.{width, widthUpTo, mostRows, partSize}
 use Rattle.reorder.proofs.Pack.{width-small, width-rows, by-width}
@@ -26,13 +27,6 @@ part-size = refl
 
 pub rows-room : (n : ℕ) → n ≤ mostVariables → 2 ^ n ≤ mostRows
 rows-room n h = omega (arith, most-rows, pow-mono {j = mostVariables} h)
-
--- a bit by a shift and a mask
-pub bit-masked : (n p s : ℕ) → bitAnd (s / 2 ^ (n - 1 - p)) 1 ≡ digit (bit n p s)
-unfolding bit
-bit-masked n p s =
-    let e : n - 1 - p ≡ n - suc p = omega arith in
-    and-mask (s / 2 ^ (n - 1 - p)) 1 ∙ ap (λ k. s / 2 ^ k % 2) e ∙ sym (digit-eqb (s / 2 ^ (n - suc p) % 2) (omega arith))
 
 -- past the bits of a row the last is read
 pub bit-past : (n p s : ℕ) → n ≤ p → bitAnd s 1 ≡ digit (bit n p s)

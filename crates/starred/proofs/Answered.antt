@@ -16,7 +16,7 @@ use Rattle.table.specs.State.{orderOf, stageOf, isNothing}
 use Rattle.table.specs.Calls.{over}
 use Rattle.table.proofs.Held.{ordered}
 use Rattle.fill.specs.Calls.{heldTable, enough, countAnswer}
-use Rattle.network.specs.Lent.{numbersOf, rootsSize}
+use Rattle.lent.specs.Lent.{numbersOf, rootsSize}
 use Rattle.network.specs.Build.{heldNetwork, wanted, capacity, longEnough, buildAnswer, buildOutcome, buildRoots, buildCells}
 use Rattle.sift.specs.Calls.{siftedOrder, siftAnswer, siftOutcome}
 use Rattle.sift.proofs.ReorderedHeading.{take-order}

@@ -20,7 +20,7 @@ use Rattle.diagram.proofs.Starred.{starred-hold}
 use Rattle.diagram.proofs.UpTo.{getD-map-upTo}
 use Rattle.table.specs.declared.Answer.the-variants.{Done, TooSmall}
 use Rattle.table.specs.Calls.{over}
-use Rattle.network.specs.Lent.{numbersOf, rootsSize}
+use Rattle.lent.specs.Lent.{numbersOf, rootsSize}
 use Rattle.network.specs.Build.{capacity, heldNetwork, wanted}
 use Rattle.starred.specs.Shown.{Shown}
 use Rattle.starred.proofs.HeldAlike.{held-cost, held-network, held-bit, held-sift, held-sift-cost}

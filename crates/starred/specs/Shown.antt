@@ -16,7 +16,7 @@ use Rattle.block.specs.Bits.{streamBit}
 use Rattle.table.specs.State.{orderOf, stageOf, isNothing}
 use Rattle.table.specs.Calls.{over}
 use Rattle.fill.specs.Calls.{heldTable, enough, countAnswer}
-use Rattle.network.specs.Lent.{numbersOf, rootsSize}
+use Rattle.lent.specs.Lent.{numbersOf, rootsSize}
 use Rattle.network.specs.Build.{capacity, longEnough, buildOutcome, buildRoots, buildCells}
 use Rattle.sift.specs.Calls.{siftOutcome}
 

@@ -35,12 +35,12 @@ use Rattle.table.specs.Calls.{planeSize, loadAnswer, loadOutcome, swapAnswer, s
 use Rattle.table.proofs.Held.{few-bits, few-outputs}
 use Rattle.fill.specs.Work.{workSize}
 use Rattle.fill.specs.Calls.{heldTable, enough, countAnswer}
-use Rattle.network.specs.Lent.{lentDiagram, rootsSize}
+use Rattle.lent.specs.Lent.{lentDiagram, rootsSize}
+use Rattle.lent.specs.Evaluate.{goodCells, rowOutputs, evaluateAnswer}
+use Rattle.lent.specs.Rows.{rowsAnswer}
+use Rattle.lent.proofs.Answered.{network-held}
 use Rattle.network.specs.Build.{wanted, capacity, longEnough, buildAnswer, buildOutcome}
-use Rattle.network.specs.Evaluate.{goodCells, rowOutputs, evaluateAnswer}
-use Rattle.network.specs.Rows.{rowsAnswer}
 use Rattle.network.proofs.HeldRead.{few-nodes, few-wanted}
-use Rattle.network.proofs.Answered.{network-held}
 use Rattle.canonical.specs.Canonical.{canonicalAnswer}
 use Rattle.cellfile.specs.File.{countAt, rootsAt, fileCount, fileDiagram, cellBlocks, carriedNumbers}
 use Rattle.cellfile.specs.File.{unusedHeading, networkHeading, cellsBlock, cellsAnswer, networkFileAnswer}

@@ -13,7 +13,7 @@ ghost use Prim.Native.Nat.{_/_, _<_};
 ghost use Rattle.diagram.specs.Demands.{NoneFits};
 ghost use Rattle.table.specs.State.{orderOf};
 ghost use Rattle.fill.specs.Calls.{heldTable, countAnswer, countWork};
-ghost use Rattle.network.specs.Lent.{lentDiagram};
+ghost use Rattle.lent.specs.Lent.{lentDiagram};
 ghost use Rattle.network.specs.Build.{capacity, reachesBoard, buildOutcome, buildRoots, buildCells, buildWork, Built};
 ghost use Rattle.yavdocsil.specs.Words.{valueLimit, stateFrom};
 ghost use Rattle.yavdocsil.specs.Called.{isState, answered, leaves, settled, success};

@@ -8,7 +8,7 @@ use cellfile::write::write_cells;
 use table::Answer;
 ghost use mathlib.Core.Path.{_≡_};
 ghost use Prim.Native.Nat.{_<_};
-ghost use Rattle.network.specs.Lent.{lentDiagram};
+ghost use Rattle.lent.specs.Lent.{lentDiagram};
 ghost use Rattle.network.specs.Build.{capacity};
 ghost use Rattle.cellfile.specs.Write.{writeAnswer, writeWork, writtenFile};
 ghost use Rattle.cellfile.specs.Read.{readOutcome, readValues, readCare, readWork, readRoots, readCells, Given};

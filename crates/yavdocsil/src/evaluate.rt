@@ -2,13 +2,13 @@
 use crate::answer::answer_word;
 use crate::state::WORDS;
 use crate::state::read_state;
-use network::evaluate::evaluate;
-use network::rows::evaluate_rows;
+use lent::evaluate::evaluate;
+use lent::rows::evaluate_rows;
 use table::Answer;
 ghost use mathlib.Core.Path.{_≡_};
 ghost use Prim.Native.Nat.{_<_};
-ghost use Rattle.network.specs.Evaluate.{evaluateAnswer};
-ghost use Rattle.network.specs.Rows.{rowsAnswer, rowsAnswers, EachAlone};
+ghost use Rattle.lent.specs.Evaluate.{evaluateAnswer};
+ghost use Rattle.lent.specs.Rows.{rowsAnswer, rowsAnswers, EachAlone};
 ghost use Rattle.yavdocsil.specs.Words.{valueLimit, stateFrom};
 ghost use Rattle.yavdocsil.specs.Called.{answered, leaves};
 

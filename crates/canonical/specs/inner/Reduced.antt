@@ -8,7 +8,7 @@ use lib.ListN.{length, getD}
 use Rattle.diagram.specs.Lists.{all, has, distinct, upTo}
 use Rattle.diagram.specs.Diagram.{Node, sameNode}
 use Rattle.diagram.specs.inner.Structure.{nodeReduced}
-use Rattle.network.specs.Lent.{lentNode}
+use Rattle.lent.specs.Lent.{lentNode}
 
 -- the first k nodes
 unfoldable pub lentNodes : List ℕ → ℕ → List Node

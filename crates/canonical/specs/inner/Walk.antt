@@ -9,7 +9,7 @@ use lib.ListN.{length, getD, take}
 use Rattle.diagram.specs.Lists.{all, keep, has, distinct, equal}
 use Rattle.diagram.specs.Bound.{mostNodes}
 use Rattle.diagram.specs.inner.Structure.{targets, range}
-use Rattle.network.specs.Lent.{lentNode}
+use Rattle.lent.specs.Lent.{lentNode}
 use Rattle.canonical.specs.declared.walk.Numbered.{Numbered}
 use Rattle.canonical.specs.declared.walk.Numbered.the-variants.{Next, Broken}
 

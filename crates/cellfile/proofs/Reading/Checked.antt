@@ -17,9 +17,9 @@ use Rattle.table.specs.declared.Answer.the-variants.{Done, BadCells, NotCanonic
 use Rattle.table.specs.Answer.{unless, done}
 use Rattle.table.specs.File.{fileInputs, fileOutputs, fileOrder}
 use Rattle.table.proofs.Accepted.{AcceptedShape, unless-done}
-use Rattle.network.specs.Lent.{lentDiagram, rootsSize}
-use Rattle.network.specs.Evaluate.{goodCells}
-use Rattle.network.proofs.Answered.{enough-cells}
+use Rattle.lent.specs.Lent.{lentDiagram, rootsSize}
+use Rattle.lent.specs.Evaluate.{goodCells}
+use Rattle.lent.proofs.Answered.{enough-cells}
 use Rattle.canonical.specs.Canonical.{canonicalAnswer}
 use Rattle.canonical.proofs.Answered.{many-none}
 use Rattle.cellfile.specs.File.{fileCount, fileNode, fileDiagram, networkFileAnswer}

@@ -11,9 +11,9 @@ use Rattle.table.specs.File.{fileOutputs}
 use Rattle.table.specs.Calls.{over}
 use Rattle.table.proofs.Accepted.{AcceptedShape}
 use Rattle.table.proofs.Over.{length-over, getD-over}
-use Rattle.network.specs.Lent.{lentNode, lentDiagram, rootsSize}
+use Rattle.lent.specs.Lent.{lentNode, lentDiagram, rootsSize}
 use Rattle.block.proofs.Elements.{first-elements}
-use Rattle.network.proofs.RootTurns.{roots-size}
+use Rattle.lent.proofs.Sizes.{roots-size}
 use Rattle.cellfile.specs.File.{fileCount, fileRoot, cellNumber, fileNode, fileDiagram}
 use Rattle.cellfile.specs.inner.Cells.{fileCells, fileRoots}
 

@@ -15,7 +15,7 @@ use Rattle.table.specs.Answer.{done}
 use Rattle.table.specs.Calls.{planeSize}
 use Rattle.table.proofs.Accepted.{unless-done, both-done}
 use Rattle.fill.specs.Work.{workSize}
-use Rattle.network.specs.Lent.{rootsSize}
+use Rattle.lent.specs.Lent.{rootsSize}
 use Rattle.network.specs.Build.{capacity, longEnough}
 use Rattle.cellfile.specs.File.{fileCount, networkFileAnswer}
 use Rattle.cellfile.specs.Read.{readAnswer, clearsChecked}

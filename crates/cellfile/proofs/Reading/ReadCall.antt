@@ -11,7 +11,7 @@ use Rattle.table.specs.declared.State.{State}
 use Rattle.table.specs.Answer.{done}
 use Rattle.table.specs.Calls.{over}
 use Rattle.fill.specs.Work.{clearedWork}
-use Rattle.network.specs.Lent.{lentDiagram, rootsSize}
+use Rattle.lent.specs.Lent.{lentDiagram, rootsSize}
 use Rattle.network.specs.Build.{capacity}
 use Rattle.cellfile.specs.File.{fileCount, fileRoot, cellNumber}
 use Rattle.cellfile.specs.Read.{readAnswer, readState, clearsChecked, readOutcome, readValues, readCare, readWork, readRoots}

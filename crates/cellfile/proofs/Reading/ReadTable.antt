@@ -23,10 +23,10 @@ use Rattle.table.proofs.Accepted.{AcceptedShape}
 use Rattle.table.proofs.Answers.{stream-small}
 use Rattle.table.proofs.Over.{plane-size}
 use Rattle.fill.specs.Calls.{heldTable}
-use Rattle.network.specs.Tabulate.{lentTable, tabulateValues, tabulateCare}
-use Rattle.network.proofs.RootTurns.{roots-size}
-use Rattle.network.proofs.Tabulated.{plane-bit}
-use Rattle.network.proofs.Tabulating.{table-done}
+use Rattle.lent.specs.Tabulate.{lentTable, tabulateValues, tabulateCare}
+use Rattle.lent.proofs.Sizes.{roots-size}
+use Rattle.lent.proofs.Tabulated.{plane-bit}
+use Rattle.lent.proofs.Tabulating.{table-done}
 use Rattle.cellfile.specs.File.{fileCount, fileDiagram}
 use Rattle.cellfile.specs.Read.{readState, readTable, Given}
 use Rattle.cellfile.proofs.Reading.Copied.{Copied}

@@ -14,7 +14,7 @@ use Rattle.block.specs.Numbers.{numberLimit}
 use Rattle.table.specs.declared.State.{State}
 use Rattle.table.specs.Answer.{done}
 use Rattle.fill.specs.Work.{workSize}
-use Rattle.network.specs.Lent.{rootsSize}
+use Rattle.lent.specs.Lent.{rootsSize}
 use Rattle.network.specs.Build.{capacity, longEnough}
 use Rattle.canonical.proofs.Answered.{Success}
 use Rattle.cellfile.specs.File.{blockNumbers, fileCount, fileRoot, cellNumber}

@@ -22,7 +22,7 @@ use Rattle.table.specs.State.{orderOf}
 use Rattle.table.specs.File.{fileInputs, fileOutputs, fileOrder}
 use Rattle.table.specs.Calls.{over}
 use Rattle.table.proofs.Held.{few-outputs}
-use Rattle.network.specs.Lent.{rootsSize, lentDiagram}
+use Rattle.lent.specs.Lent.{rootsSize, lentDiagram}
 use Rattle.network.specs.Build.{capacity, longEnough}
 use Rattle.canonical.proofs.Answered.{Success}
 use Rattle.cellfile.specs.File.{fileCount, fileRoot, cellNumber, fileDiagram}

@@ -18,7 +18,7 @@ use Rattle.table.specs.Calls.{over}
 use Rattle.table.proofs.Accepted.{unless-done}
 use Rattle.table.proofs.Held.{few-inputs, few-outputs, ordered}
 use Rattle.fill.specs.Work.{workSize, clearedWork}
-use Rattle.network.specs.Lent.{rootsSize}
+use Rattle.lent.specs.Lent.{rootsSize}
 use Rattle.canonical.specs.Canonical.{canonicalAnswer}
 use Rattle.canonical.proofs.Answered.{Success, success}
 use Rattle.cellfile.specs.File.{cellBlocks}

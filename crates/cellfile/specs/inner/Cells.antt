@@ -13,7 +13,7 @@ use Rattle.table.specs.declared.Answer.the-variants.{Done, BadCells, NotCanonic
 use Rattle.table.specs.Answer.{unless, done}
 use Rattle.table.specs.File.{fileInputs, fileOutputs, fileOrder}
 use Rattle.table.specs.Calls.{planeSize}
-use Rattle.network.specs.Lent.{rootsSize}
+use Rattle.lent.specs.Lent.{rootsSize}
 use Rattle.cellfile.specs.File.{fileCount, fileRoot, cellNumber, fileDiagram, networkFileAnswer}
 
 -- the numbers of the first `count` cells

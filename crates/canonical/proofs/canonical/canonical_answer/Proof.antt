@@ -6,8 +6,8 @@ use mathlib.Core.Bool.{true}
 use borrow.Author.Tests.{not-true, not-false}
 use denote.Ref.{now}
 use Rattle.table.specs.State.{stageOf, isNetwork}
-use Rattle.network.specs.Evaluate.{goodCells}
-use Rattle.network.proofs.Answered.{followable, rooted}
+use Rattle.lent.specs.Evaluate.{goodCells}
+use Rattle.lent.proofs.Answered.{followable, rooted}
 use Rattle.canonical.proofs.Structured.{own-edges, own-roots}
 use Rattle.canonical.proofs.Answered.{answer-short, answer-no-network, answer-bad-cells, answer-many, answer-not, answer-done}
 use Rattle.canonical.proofs.canonical.canonical_answer.Statement.{statement}

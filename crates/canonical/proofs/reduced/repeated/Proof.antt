@@ -8,7 +8,7 @@ use native.Mathlib.Omega.{arith}
 use denote.Ref.{now}
 use Rattle.diagram.specs.Lists.{has}
 use Rattle.diagram.specs.Diagram.{sameNode}
-use Rattle.network.specs.Lent.{lentNode}
+use Rattle.lent.specs.Lent.{lentNode}
 use Rattle.canonical.specs.inner.Reduced.{lentNodes}
 use Rattle.canonical.proofs.Nodes.{repeated-none, repeated-more, repeated-at}
 use Rattle.canonical.proofs.reduced.repeated.Statement.{statement}

@@ -2,7 +2,7 @@
 -- Assumes nothing.
 use borrow.Author.Needs.{needs}
 use native.Mathlib.Omega.{arith}
-use Rattle.network.proofs.Following.{variable-below}
+use Rattle.lent.proofs.Following.{variable-below}
 use Rattle.cellfile.proofs.content.order_byte.Statement.{statement}
 use Rattle.cellfile.proofs.content.order_byte.Tie as tie
 

@@ -8,7 +8,7 @@ use lib.ListN.{length}
 use Rattle.diagram.specs.Bound.{mostOutputs}
 use Rattle.table.specs.Calls.{over}
 use Rattle.table.proofs.Over.{over-next, length-over}
-use Rattle.network.proofs.RootTurns.{roots-size}
+use Rattle.lent.proofs.Sizes.{roots-size}
 use Rattle.cellfile.specs.File.{fileRoot}
 use Rattle.cellfile.proofs.copy.copy_roots.Statement.{statement}
 use Rattle.cellfile.proofs.copy.copy_roots.Tie as tie

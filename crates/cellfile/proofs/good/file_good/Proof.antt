@@ -7,9 +7,9 @@ use borrow.Author.Tests.{not-true, not-false}
 use denote.Ref.{now}
 use native.Mathlib.Omega.{arith}
 use Rattle.diagram.specs.Diagram.{wellFormed}
-use Rattle.network.specs.Lent.{lentDiagram}
-use Rattle.network.proofs.RootTurns.{roots-size}
-use Rattle.network.proofs.Tested.{formed-not, formed-rest}
+use Rattle.lent.specs.Lent.{lentDiagram}
+use Rattle.lent.proofs.Sizes.{roots-size}
+use Rattle.lent.proofs.Tested.{formed-not, formed-rest}
 use Rattle.cellfile.specs.File.{fileDiagram}
 use Rattle.cellfile.specs.inner.Cells.{fileCells, fileRoots}
 use Rattle.cellfile.proofs.Reading.Copied.{roots-long, own-diagram}

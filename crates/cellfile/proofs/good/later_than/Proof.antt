@@ -7,7 +7,7 @@ use native.Mathlib.Omega.{arith}
 use denote.Ref.{now}
 use lib.Dec.{ltb}
 use Rattle.cellfile.specs.inner.Cells.{fileCells}
-use Rattle.network.proofs.Tested.{later-constant, later-past, later-own}
+use Rattle.lent.proofs.Tested.{later-constant, later-past, later-own}
 use Rattle.cellfile.proofs.Reading.Copied.{cell-read}
 use Rattle.cellfile.proofs.good.later_than.Statement.{statement}
 use Rattle.cellfile.proofs.good.later_than.Tie as tie

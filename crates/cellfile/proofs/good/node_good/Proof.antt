@@ -7,7 +7,7 @@ use Prim.Native.Nat.{_+_, _*_}
 use native.Mathlib.Omega.{arith}
 use denote.Ref.{now}
 use Rattle.cellfile.specs.inner.Cells.{fileCells}
-use Rattle.network.proofs.Tested.{node-deep, node-low-bad, node-low-good}
+use Rattle.lent.proofs.Tested.{node-deep, node-low-bad, node-low-good}
 use Rattle.cellfile.proofs.Reading.Copied.{cell-read}
 use Rattle.cellfile.proofs.good.node_good.Statement.{statement}
 use Rattle.cellfile.proofs.good.node_good.Tie as tie

@@ -10,7 +10,7 @@ use denote.Ref.{now}
 use Rattle.diagram.specs.Lists.{all, upTo}
 use Rattle.diagram.proofs.Numbers.{all-upTo-more}
 use Rattle.cellfile.specs.inner.Cells.{fileCells}
-use Rattle.network.proofs.Tested.{goodNode, nodes-bad, nodes-good}
+use Rattle.lent.proofs.Tested.{goodNode, nodes-bad, nodes-good}
 use Rattle.cellfile.proofs.good.nodes_good.Statement.{statement}
 use Rattle.cellfile.proofs.good.nodes_good.Tie as tie
 

@@ -9,8 +9,8 @@ use native.Mathlib.Omega.{arith}
 use denote.Ref.{now}
 use Rattle.diagram.specs.Lists.{all, upTo}
 use Rattle.cellfile.specs.inner.Cells.{fileCells, fileRoots}
-use Rattle.network.proofs.RootTurns.{roots-size}
-use Rattle.network.proofs.Tested.{ownRoot, roots-bad, roots-more, roots-good}
+use Rattle.lent.proofs.Sizes.{roots-size}
+use Rattle.lent.proofs.Tested.{ownRoot, roots-bad, roots-more, roots-good}
 use Rattle.cellfile.proofs.Reading.Copied.{roots-long, root-read}
 use Rattle.cellfile.proofs.good.roots_good.Statement.{statement}
 use Rattle.cellfile.proofs.good.roots_good.Tie as tie

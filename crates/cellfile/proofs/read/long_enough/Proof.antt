@@ -8,7 +8,7 @@ use lib.Dec.{leb}
 use lib.ListN.{length}
 use Rattle.table.proofs.Over.{plane-size}
 use Rattle.fill.proofs.Buffers.Sizes.{work-size}
-use Rattle.network.proofs.RootTurns.{roots-size}
+use Rattle.lent.proofs.Sizes.{roots-size}
 use Rattle.cellfile.proofs.Reading.ReadAnswer.{short-values, short-care, short-work, by-roots}
 use Rattle.cellfile.proofs.read.long_enough.Statement.{statement}
 use Rattle.cellfile.proofs.read.long_enough.Tie as tie

@@ -6,7 +6,7 @@ use denote.Ref.{now}
 use borrow.Author.Needs.{needs}
 use Rattle.table.specs.declared.State.{State}
 use Rattle.table.specs.Calls.{over}
-use Rattle.network.specs.Tabulate.{tabulateValues, tabulateCare}
+use Rattle.lent.specs.Tabulate.{tabulateValues, tabulateCare}
 use Rattle.cellfile.specs.File.{fileCount, cellNumber}
 use Rattle.cellfile.proofs.Reading.Checked.{shape-of, passed}
 use Rattle.cellfile.proofs.Reading.Copied.{outputs-fit, copied-over}

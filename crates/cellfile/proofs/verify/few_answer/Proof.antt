@@ -2,7 +2,7 @@
 -- Assumes nothing.
 use native.Mathlib.Omega.{arith}
 use borrow.Author.Needs.{needs}
-use Rattle.network.proofs.RootTurns.{roots-size}
+use Rattle.lent.proofs.Sizes.{roots-size}
 use Rattle.cellfile.proofs.verify.few_answer.Statement.{statement}
 use Rattle.cellfile.proofs.verify.few_answer.Tie as tie
 

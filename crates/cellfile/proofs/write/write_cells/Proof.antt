@@ -10,8 +10,8 @@ use Rattle.diagram.proofs.Bools.{to-T}
 use Rattle.table.specs.Answer.{done}
 use Rattle.fill.specs.Work.{workSize}
 use Rattle.fill.proofs.Buffers.Sizes.{work-size}
-use Rattle.network.specs.Lent.{rootsSize}
-use Rattle.network.proofs.RootTurns.{roots-size}
+use Rattle.lent.specs.Lent.{rootsSize}
+use Rattle.lent.proofs.Sizes.{roots-size}
 use Rattle.canonical.proofs.Answered.{success}
 use Rattle.cellfile.specs.Write.{fileSize}
 use Rattle.cellfile.proofs.Format.FileSizes.{file-size}

@@ -9,7 +9,7 @@ use denote.Ref.{now}
 use Rattle.table.specs.Calls.{over}
 use Rattle.fill.specs.Work.{clearedWork}
 use Rattle.fill.proofs.Buffers.Sizes.{work-size}
-use Rattle.network.specs.Lent.{rootsSize}
+use Rattle.lent.specs.Lent.{rootsSize}
 use Rattle.network.specs.inner.Levels.{rootAt}
 use Rattle.network.proofs.Offsets.{links-at, first-at}
 use Rattle.network.proofs.build.lay_out.Statement.{statement}

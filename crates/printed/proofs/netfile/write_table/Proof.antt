@@ -4,7 +4,7 @@ use mathlib.Core.Path.{sym, _∙_}
 use native.Mathlib.Omega.{arith}
 use borrow.Author.Needs.{needs}
 use denote.Ref.{now}
-use Rattle.network.proofs.RootTurns.{roots-size}
+use Rattle.lent.proofs.Sizes.{roots-size}
 use Rattle.cellfile.proofs.Format.FileSizes.{file-size}
 use Rattle.printed.proofs.Sizes.{plane-size, work-size}
 use Rattle.printed.proofs.FiledOutput.{all-left}

@@ -1,7 +1,8 @@
 -- `reorder::rows::bit_of` meets its contract, by whether the row has a bit p.
 -- Assumes nothing.
 use borrow.Author.Needs.{needs}
-use Rattle.reorder.proofs.Shifts.{bit-masked, bit-past}
+use Rattle.block.proofs.StreamBits.{bit-masked}
+use Rattle.reorder.proofs.Shifts.{bit-past}
 use Rattle.reorder.proofs.rows.bit_of.Statement.{statement}
 use Rattle.reorder.proofs.rows.bit_of.Tie as tie
 

@@ -8,7 +8,7 @@ use Rattle.diagram.specs.Demands.{NoneFits}
 use Rattle.table.specs.declared.Outcome.{Outcome}
 use Rattle.table.specs.State.{orderOf}
 use Rattle.fill.specs.Calls.{heldTable}
-use Rattle.network.specs.Lent.{lentDiagram}
+use Rattle.lent.specs.Lent.{lentDiagram}
 use Rattle.network.specs.Build.{capacity, reachesBoard, Built}
 use Rattle.yavdocsil.specs.Words.{stateFrom}
 use Rattle.yavdocsil.specs.Called.{settled, success}

@@ -4,7 +4,7 @@ use borrow.Author.Needs.{needs}
 use mathlib.Core.Path.{refl, sym, ap, _∙_, subst}
 use denote.Ref.{now}
 use Rattle.table.specs.declared.Outcome.{Outcome}
-use Rattle.network.specs.Lent.{lentDiagram}
+use Rattle.lent.specs.Lent.{lentDiagram}
 use Rattle.network.specs.Build.{capacity}
 use Rattle.cellfile.specs.Read.{Given}
 use Rattle.yavdocsil.specs.Words.{stateFrom}

@@ -3,7 +3,7 @@
 use borrow.Author.Needs.{needs}
 use mathlib.Core.Path.{sym, subst}
 use denote.Ref.{now}
-use Rattle.network.specs.Rows.{EachAlone}
+use Rattle.lent.specs.Rows.{EachAlone}
 use Rattle.yavdocsil.specs.Words.{stateFrom}
 use Rattle.yavdocsil.proofs.SmallValues.{Small, rows-small}
 use Rattle.yavdocsil.proofs.Calling.{short-answer, short-leaves, short-refused, called-answer, called-leaves, carried-answer}

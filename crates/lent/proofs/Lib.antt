@@ -1,0 +1,13 @@
+pub mod Answered
+pub mod Evaluated
+pub mod Following
+pub mod Gathered
+pub mod LevelBits
+pub mod ManyRows
+pub mod Nodes
+pub mod Outputs
+pub mod SelectedEdge
+pub mod Sizes
+pub mod Tabulated
+pub mod Tabulating
+pub mod Tested

@@ -1,0 +1,5 @@
+pub mod Lent
+pub mod Evaluate
+pub mod Rows
+pub mod Tabulate
+pub mod inner
