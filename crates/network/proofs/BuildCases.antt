@@ -33,7 +33,7 @@ use Rattle.lent.proofs.Sizes.{roots-size}
 use Rattle.network.specs.inner.Levels.{storedLimit, made, levelAt, levelsMade, rootAt}
 use Rattle.network.specs.Build.{wanted, capacity, reachesBoard, networkState, clears, buildOutcome, buildRoots, buildCells}
 use Rattle.network.specs.Build.{buildWork, Built}
-use Rattle.network.proofs.HeldRead.{kss, heldEntries, heldCounts}
+use Rattle.network.proofs.HeldRead.{heldLinks, heldEntries, heldCounts}
 use Rattle.network.proofs.LentNetwork.{built-lent, fit-held}
 use Rattle.network.proofs.Laid.{links-cleared, ready-end, ready-long, ready-total, ready-few, ready-next, laid-work, laid-cells}
 use Rattle.network.proofs.Laid.{laid-roots}
@@ -119,7 +119,7 @@ module _ (s : State) (values care work roots cells : List ℕ) where
       wanted-success : countAnswer s values care work ≡ Done (wanted s values care)
       wanted-success = success ∙ ap Done right-total
 
-      traced : w ≡ traceWork (kss s values care) work
+      traced : w ≡ traceWork (heldLinks s values care) work
       traced = ew ∙ links-traced s values care work total success
 
       pub small-case : capacity cells < total → (w′ : List ℕ) → w′ ≡ clearedWork w → Ended (outcome (TooSmall total) s) w′ roots cells

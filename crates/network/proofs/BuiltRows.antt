@@ -27,7 +27,7 @@ use Rattle.lent.specs.Lent.{lentDiagram, numbersOf, rootsSize}
 use Rattle.lent.specs.Evaluate.{goodCells, rowOutputs, evaluateAnswer}
 use Rattle.lent.proofs.Sizes.{roots-size}
 use Rattle.network.specs.Build.{heldNetwork, wanted, networkState}
-use Rattle.network.proofs.LentNetwork.{cells-enough, lent-network}
+use Rattle.network.proofs.LentNetwork.{cells-enough, lent-held}
 
 -- the state that a build leaves holds a network
 pub network-stage : (s : State) (count : ℕ) → T (not (isNothing (stageOf s))) → isNetwork (stageOf (networkState s count)) ≡ true
@@ -48,7 +48,7 @@ module _ (s : State) (values care roots cells : List ℕ) (held : T (not (isNoth
       (builtRoots s values care roots)) ≡ true
   unfolding heldNetwork
   formed =
-      ap (wellFormed true (s .n) (s .m)) (lent-network s values care held cells roots)
+      ap (wellFormed true (s .n) (s .m)) (lent-held s values care held cells roots)
       ∙ of-T (right true (heldTable s values care) (orderOf s) .formed)
 
   -- the cells and the roots pass the test of number 24
@@ -77,7 +77,7 @@ module _ (s : State) (values care roots cells : List ℕ) (held : T (not (isNoth
       packed-cong (s .m) (λ j. gives true D (rowUnder (s .n) (orderOf s) row) (s .n) (getD (builtRoots s values care roots) j 0))
       (λ j. filledBit true (heldTable s values care) (orderOf s) j row)
       (λ j h.
-      ap₂ (λ (E : Diagram) (r : ℕ). gives true E (rowUnder (s .n) (orderOf s) row) (s .n) r) (lent-network s values care held cells roots)
+      ap₂ (λ (E : Diagram) (r : ℕ). gives true E (rowUnder (s .n) (orderOf s) row) (s .n) r) (lent-held s values care held cells roots)
       (root-there j h)
       ∙ right true (heldTable s values care) (orderOf s) .computes j row h known)
 

@@ -1,4 +1,4 @@
--- Cells and roots that hold a network, read as a diagram, are that network; and of a held table's network demands 2 and 3 hold.
+-- Cells and roots that hold a diagram, read again, are that diagram; and of a held table's network demands 2 and 3 hold.
 -- Assumes nothing.
 use mathlib.Core.Path.{_≡_, refl, sym, ap, ap₂, _∙_, subst}
 use mathlib.Core.Bool.{true, not}
@@ -12,8 +12,8 @@ use lib.ListN.{length, getD, take, drop, length-append}
 use lib.Seq.{ext-getD, length-take-le, getD-take}
 use Rattle.diagram.specs.Lists.{upTo}
 use Rattle.diagram.specs.Diagram.{Node, Diagram}
-use Rattle.diagram.specs.Network.{count}
-use Rattle.diagram.specs.Table.{networkOf, cost}
+use Rattle.diagram.specs.Bound.{mostOutputs}
+use Rattle.diagram.specs.Table.{Table, networkOf, cost}
 use Rattle.diagram.specs.Demands.{Least, NoneFits}
 use Rattle.diagram.proofs.Evaluate.{formed-length}
 use Rattle.diagram.proofs.Demands.{kept, right, least-cost, fits}
@@ -72,26 +72,34 @@ cells-enough s values care cells =
     let N = heldNetwork s values care .nodes in
     omega (arith, length-append (numbersOf N) (drop (3 * wanted s values care) cells), numbers-length N, wanted-nodes s values care)
 
-module _ (s : State) (values care : List ℕ) (held : T (not (isNothing (stageOf s)))) where
-  roots-length : length (heldNetwork s values care .roots) ≡ s .m
-  unfolding heldNetwork
-  roots-length =
-      let t = heldTable s values care in
-      let D = networkOf true t (orderOf s) in
-      eqb→eq (length (D .roots)) (s .m) (formed-length true (s .n) (s .m) D (right true t (orderOf s) .formed))
+-- cells and roots that hold a diagram of so many roots are that diagram
+pub lent-network : (D : Diagram) (m : ℕ) → length (D .roots) ≡ m → m ≤ mostOutputs → (rest roots : List ℕ)
+    → lentDiagram (length (D .nodes)) m (numbersOf (D .nodes) ++ rest) (over (λ j. getD (D .roots) j 0) rootsSize roots) ≡ D
+unfolding lentDiagram
+lent-network D m e few rest roots =
+    ap₂ (λ (x : List Node) (y : List ℕ). record { nodes = x; roots = y }) (lent-nodes (D .nodes) rest)
+    (ap (λ n. take n (over (λ j. getD (D .roots) j 0) rootsSize roots)) (sym e)
+    ∙ taken (D .roots) rootsSize roots (omega (arith, e, roots-size)))
 
-  pub lent-network : (cells roots : List ℕ)
+-- a table's network has a root an output
+pub roots-length : (t : Table) (order : List ℕ) → length (networkOf true t order .roots) ≡ t .m
+roots-length t order =
+    let D = networkOf true t order in
+    eqb→eq (length (D .roots)) (t .m) (formed-length true (t .n) (t .m) D (right true t order .formed))
+
+module _ (s : State) (values care : List ℕ) (held : T (not (isNothing (stageOf s)))) where
+  -- the cells and the roots that a build leaves hold the network
+  pub lent-held : (cells roots : List ℕ)
       → lentDiagram (wanted s values care) (s .m) (numbersOf (heldNetwork s values care .nodes) ++ drop (3 * wanted s values care) cells)
       (over (λ j. getD (heldNetwork s values care .roots) j 0) rootsSize roots)
       ≡ heldNetwork s values care
-  unfolding lentDiagram
-  lent-network cells roots =
+  unfolding heldNetwork
+  lent-held cells roots =
       let D = heldNetwork s values care in
       let rest = drop (3 * wanted s values care) cells in
-      ap₂ (λ (x : List Node) (y : List ℕ). record { nodes = x; roots = y })
-      (ap (λ n. map (lentNode (numbersOf (D .nodes) ++ rest)) (upTo n)) (wanted-nodes s values care) ∙ lent-nodes (D .nodes) rest)
-      (ap (λ n. take n (over (λ j. getD (D .roots) j 0) rootsSize roots)) (sym roots-length)
-      ∙ taken (D .roots) rootsSize roots (omega (arith, roots-length, few-outputs s held, roots-size)))
+      ap (λ n. lentDiagram n (s .m) (numbersOf (D .nodes) ++ rest) (over (λ j. getD (D .roots) j 0) rootsSize roots))
+      (wanted-nodes s values care)
+      ∙ lent-network D (s .m) (roots-length (heldTable s values care) (orderOf s)) (few-outputs s held) rest roots
 
   -- demands 2 and 3's least of the held table's network, where an outcome answers and counts its cells
   module _ (r : Outcome) (ea : value (r .answer) ≡ wanted s values care) (ec : r .state .count ≡ wanted s values care) where
@@ -117,7 +125,7 @@ module _ (s : State) (values care : List ℕ) (held : T (not (isNothing (stageOf
     built-lent cells roots cells′ roots′ dc dr =
         let e : lentDiagram (r .state .count) (s .m) cells′ roots′ ≡ heldNetwork s values care =
         ap (λ k. lentDiagram k (s .m) cells′ roots′) ec ∙ ap₂ (lentDiagram (wanted s values care) (s .m)) dc dr
-        ∙ lent-network cells roots in
+        ∙ lent-held cells roots in
         subst (λ (D : Diagram). Built s values care r D (capacity cells′)) (sym e)
         (built-held (capacity cells′) (subst (λ (c : List ℕ). wanted s values care ≤ capacity c) (sym dc)
         (cells-enough s values care cells)))

@@ -10,6 +10,7 @@ pub mod LinkRefs
 pub mod Offsets
 pub mod Outcomes
 pub mod RootTurns
+pub mod TraceRead
 pub mod TraceSized
 pub mod Words
 pub mod WorkLinks

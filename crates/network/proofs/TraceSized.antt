@@ -3,9 +3,9 @@
 -- Assumes nothing.
 use mathlib.Core.Path.{_≡_, refl, sym, ap, _∙_, subst}
 use mathlib.Core.Bool.{true}
-use mathlib.Core.List.{List, [], _∷_, _++_, map}
+use mathlib.Core.List.{List, [], _∷_, _++_}
 use Prim.Native.Nat.{ℕ, zero, suc, _+_, _*_, _≤_, _<_, suc-le-suc, zero-le}
-use native.Mathlib.Nat.{add-zero, le-trans}
+use native.Mathlib.Nat.{add-zero, le-trans, not-suc-le-zero, le-of-suc-le-suc}
 use native.Mathlib.Omega.{arith}
 use lib.ListN.{length, getD, length-append}
 use Rattle.diagram.specs.Tree.{Tree}
@@ -43,26 +43,35 @@ pub lower-length : (d : ℕ) (fs : List (Tree Row d)) → length (lower true d f
 lower-length zero fs = refl
 lower-length (suc d) fs = ap length (trace-lower true d (next fs)) ∙ ap suc (lower-length d (next fs))
 
+-- entries and counts are those of the levels from p on: of each level half of its links, and as many as differ
 pub trace-sized : (m : ℕ) (entries counts : List ℕ) (d p : ℕ) (fs : List (Tree Row d))
-    → ((j : ℕ) → j < d → getD entries (p + j) 0 ≡ getD (entryCounts d fs) j 0)
-    → ((j : ℕ) → j < d → getD counts (p + j) 0 ≡ getD (map differing (lower true d fs)) j 0) → Sized m entries counts p (lower true d fs)
+    → ((j : ℕ) → j < d → 2 * getD entries (p + j) 0 ≡ length (getD (lower true d fs) j []))
+    → ((j : ℕ) → j < d → getD counts (p + j) 0 ≡ differing (getD (lower true d fs) j [])) → Sized m entries counts p (lower true d fs)
 trace-sized m entries counts zero p fs f g = tt
 trace-sized m entries counts (suc d) p fs f g =
     let e = trace-lower true d (next fs) in
-    let q : (j : ℕ) → getD (entryCounts (suc d) fs) j 0 ≡ getD (length (level true [] fs .entries) ∷ entryCounts d (next fs)) j 0 =
-    λ j. ap (λ l. getD l j 0) (entries-suc d fs) in
-    let f₀ = ap (λ x. getD entries x 0) (sym (add-zero p)) ∙ f 0 (suc-le-suc zero-le) ∙ q 0 in
-    let g₀ = ap (λ x. getD counts x 0) (sym (add-zero p)) ∙ g 0 (suc-le-suc zero-le)
-    ∙ ap (λ (l : List (List Link)). getD (map differing l) 0 0) e in
+    let at : (j : ℕ) → getD (trace true d (next fs)) j [] ≡ getD (linksOf true (next fs) ∷ lower true d (next fs)) j [] =
+    λ j. ap (λ (l : List (List Link)). getD l j []) e in
+    let f₀ = ap (λ x. 2 * getD entries x 0) (sym (add-zero p)) ∙ f 0 (suc-le-suc zero-le) ∙ ap length (at 0) in
+    let g₀ = ap (λ x. getD counts x 0) (sym (add-zero p)) ∙ g 0 (suc-le-suc zero-le) ∙ ap differing (at 0) in
     rw e (
-      next-length fs ∙ ap (λ x. 2 * x) (sym f₀),
+      sym f₀,
       g₀,
       links-valid d (next fs),
       trace-sized m entries counts d (suc p) (next fs)
-          (λ j h. let k : suc p + j ≡ p + suc j = omega arith in ap (λ x. getD entries x 0) k ∙ f (suc j) (suc-le-suc h) ∙ q (suc j))
           (λ j h. let k : suc p + j ≡ p + suc j = omega arith in
-          ap (λ x. getD counts x 0) k ∙ g (suc j) (suc-le-suc h) ∙ ap (λ (l : List (List Link)). getD (map differing l) (suc j) 0) e),
+          ap (λ x. 2 * getD entries x 0) k ∙ f (suc j) (suc-le-suc h) ∙ ap length (at (suc j)))
+          (λ j h. let k : suc p + j ≡ p + suc j = omega arith in
+          ap (λ x. getD counts x 0) k ∙ g (suc j) (suc-le-suc h) ∙ ap differing (at (suc j))),
     )
+
+-- a level's entries are half its links
+pub entries-half : (d : ℕ) (fs : List (Tree Row d)) (j : ℕ) → j < d
+    → 2 * getD (entryCounts d fs) j 0 ≡ length (getD (lower true d fs) j [])
+entries-half zero fs j h = absurd (not-suc-le-zero h)
+entries-half (suc d) fs zero h = rw (entries-suc d fs, trace-lower true d (next fs)) (sym (next-length fs))
+entries-half (suc d) fs (suc j) h =
+    rw (entries-suc d fs, trace-lower true d (next fs)) (entries-half d (next fs) j (le-of-suc-le-suc h))
 
 -- every link of the filling is a constant or one of few entries
 

@@ -29,7 +29,7 @@ ghost use Rattle.network.specs.inner.Levels.{storedLimit, made, levelAt,
 ghost use Rattle.network.specs.Build.{capacity, reachesBoard, networkState, buildOutcome, buildRoots, buildCells, buildWork, Built};
 
 // Reads the levels and the outputs off the links in the work buffer, and clears it.
-fn lay_out(
+pub(crate) fn lay_out(
     n: usize,
     m: usize,
     entries: [usize; VARIABLES],
@@ -60,7 +60,7 @@ fn lay_out(
 }
 
 // The state with a network of so many nodes.
-fn with_network(state: State, count: usize) -> State
+pub(crate) fn with_network(state: State, count: usize) -> State
     ensures { λ r. ⌜ r ≡ networkState state count ⌝ }
 {
     let order = state.order;

@@ -18,7 +18,7 @@ use Rattle.table.proofs.Held.{ordered}
 use Rattle.fill.specs.Calls.{heldTable}
 use Rattle.lent.specs.Lent.{lentDiagram, rootsSize}
 use Rattle.network.specs.Build.{heldNetwork, wanted, networkState}
-use Rattle.network.proofs.LentNetwork.{lent-network}
+use Rattle.network.proofs.LentNetwork.{lent-held}
 use Rattle.network.proofs.BuiltRows.{builtCells, builtRoots, network-stage, good-built, roots-built}
 use Rattle.canonical.specs.Canonical.{canonicalAnswer}
 
@@ -28,7 +28,7 @@ module _ (s : State) (values care roots cells : List ℕ) (held : T (not (isNoth
   unfolding heldNetwork networkOf
   canonical-built =
       let t = heldTable s values care in
-      ap (canonical true (s .n) (s .m) (orderOf s)) (lent-network s values care held cells roots)
+      ap (canonical true (s .n) (s .m) (orderOf s)) (lent-held s values care held cells roots)
       ∙ network-canonical true (s .n) (s .m) (orderOf s) (filled true t (orderOf s)) (ordered s held) (filled-length true t (orderOf s))
 
   pub answer-built : rootsSize ≤ length roots
