@@ -31,8 +31,8 @@ pub record Reaches (inv : Bool) (D : Diagram) (d p : ℕ) (u : Tree Bool d) : Ty
   pub reached : T (from inv D p ref)
   pub computed : u ≡ inverted (inv && turned) (function inv D d p ref)
 
--- of every segment in a list
-abbrev pub Every : {d : ℕ} → (Tree Bool d → Type 0) → List (Tree Bool d) → Type 0
+-- of every element of a list
+abbrev pub Every : {A : Type 0} → (A → Type 0) → List A → Type 0
 Every P [] = Unit {0}
 Every P (t ∷ ts) = P t × Every P ts
 

@@ -49,3 +49,6 @@ pub mod Canonical
 pub mod United
 pub mod Cared
 pub mod Starred
+pub mod Pairs
+pub mod CaredRows
+pub mod PairLevel
