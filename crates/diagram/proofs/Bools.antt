@@ -57,6 +57,10 @@ flip-flip true true = refl
 flip-flip true false = refl
 flip-flip false b = refl
 
+pub flip-self : (b : Bool) → flip b b ≡ false
+flip-self true = refl
+flip-self false = refl
+
 pub beq→eq : (a b : Bool) → T (Bool·beq a b) → a ≡ b
 beq→eq true true t = refl
 beq→eq true false t = absurd t

@@ -111,11 +111,15 @@ module _ (inv : Bool) (n m : ℕ) (order : List ℕ) (D : Diagram) (o : T (isOrd
   canonical-network : T (canonical inv n m order D) → network inv n (map (function inv D n 0) (D .roots)) ≡ D
   canonical-network t = sym (computed-network inv n m order D o w) ∙ canonical-is inv n m order D t
 
+  -- so its nodes are reduced
+  pub canonical-reduced : T (canonical inv n m order D) → Reduced inv n D
+  canonical-reduced t = subst (Reduced inv n) (canonical-network t) (network-reduced inv n (map (function inv D n 0) (D .roots)))
+
   canonical-structured : T (canonical inv n m order D) → T (structured inv n D)
   unfolding structured
   canonical-structured t =
       let e = canonical-network t in
-      let z : Reduced inv n D = subst (Reduced inv n) e (network-reduced inv n (map (function inv D n 0) (D .roots))) in
+      let z = canonical-reduced t in
       let b = distinct sameNode (D .nodes) in
       let c = numbered inv D n 0 0 (firsts eqb (allTargets inv (D .roots))) in
       and-T (all (nodeReduced inv) (D .nodes)) (b && c) (z .each)

@@ -1,11 +1,10 @@
 -- Functions as fully cared rows: what the filling's tests and merging come to on them.
 -- Assumes nothing.
-use mathlib.Core.Path.{_≡_, refl, sym, ap, ap₂, _∙_, subst}
+use mathlib.Core.Path.{_≡_, refl, ap, ap₂, _∙_, subst}
 use mathlib.Core.Bool.{Bool, true, false, cond, Bool·beq, _&&_}
-use mathlib.Core.List.{List, [], _∷_, map}
+use mathlib.Core.List.{List}
 use Prim.Native.Nat.{ℕ, zero, suc}
 use lib.Dec.{T}
-use Rattle.diagram.specs.Lists.{all}
 use Rattle.diagram.specs.Tree.{Tree, leaf, node, at, full, inverted, same}
 use Rattle.diagram.specs.Fill.{Row, always, agree, merge, const, Linked, candidate}
 use Rattle.diagram.specs.Halves.{cared}

@@ -52,3 +52,8 @@ pub mod Starred
 pub mod Pairs
 pub mod CaredRows
 pub mod PairLevel
+pub mod Cofactor
+pub mod PairTree
+pub mod Crosswise
+pub mod Crossed
+pub mod Exchange

@@ -17,6 +17,9 @@ use Rattle.diagram.proofs.Lists.{eqb-equality, all-has, has-all, all-ap
 pub differ : (m n : ℕ) → eqb m n ≡ false → m ≢ n
 differ m n e p = absurd-T (subst (λ (k : ℕ). T (eqb m k)) p (eqb-refl m)) e
 
+pub unequal : (m n : ℕ) → m ≢ n → eqb m n ≡ false
+unequal m n d = split (eqb m n) (λ e. absurd (d (eqb→eq m n (to-T e)))) (λ e. e)
+
 pub differ-swap : (m n : ℕ) → eqb m n ≡ false → eqb n m ≡ false
 differ-swap m n e = split (eqb n m) (λ q. absurd (differ m n e (sym (eqb→eq n m (to-T q))))) (λ q. q)
 

@@ -3,16 +3,16 @@
 -- inverse functions, and the constants for themselves.
 -- Assumes nothing.
 use mathlib.Core.Path.{_≡_, refl, sym, ap, ap₂, _∙_, subst}
-use mathlib.Core.Bool.{Bool, true, false, not, cond, _&&_, _||_}
+use mathlib.Core.Bool.{Bool, true, false, cond, _||_}
 use mathlib.Core.List.{List, [], _∷_, _++_, map}
-use Prim.Native.Nat.{ℕ, zero, suc, _+_}
+use Prim.Native.Nat.{ℕ, suc, _+_}
 use native.Mathlib.Nat.{zero-add, add-zero}
 use native.Mathlib.Omega.{arith}
 use lib.Dec.{T, eqb, ltb, eqb→eq}
 use lib.ListN.{getD}
 use Rattle.diagram.specs.Lists.{flip, digit, has, index}
 use Rattle.diagram.specs.Tree.{Tree, full, same, inverted}
-use Rattle.diagram.specs.Fill.{Row, always, agree, merge, Link, const, entry, Linked, Level, after, along, candidate, then, level}
+use Rattle.diagram.specs.Fill.{Row, always, agree, Link, entry, Linked, Level, after, along, candidate, then, level}
 use Rattle.diagram.specs.Diagram.{inverts}
 use Rattle.diagram.specs.inner.Exchange.{Pair, both, samePair, oppositePair, normalPair, sameClass, constantPair}
 use Rattle.diagram.specs.inner.Exchange.{entriesAfter, linkInto, entriesFrom, linksFrom}
@@ -61,9 +61,9 @@ constant-both f e =
     let l : f .low ≡ digit (eqb (f .low) 1) = constant-digit (f .low) (of-T (and-l a b (to-T e))) in
     pair-equal f (both (digit (eqb (f .low) 1))) l (sym (eqb→eq (f .low) (f .high) (and-r a b (to-T e))) ∙ l)
 
-digit-constant : (v : Bool) → constantPair (both (digit v)) ≡ true
-digit-constant true = refl
-digit-constant false = refl
+both-constant : (v : Bool) → constantPair (both (digit v)) ≡ true
+both-constant true = refl
+both-constant false = refl
 
 -- what holds of every pair that is seen holds of the entries
 
@@ -144,7 +144,7 @@ module _ {d : ℕ} (sem : Pair → Tree Bool d) (P : Pair → Type 0) (w : Stand
       ∙ split (same (sem f) (full v d))
       (λ q. let z : f ≡ both (digit v) =
       w .injective f (both (digit v)) x (w .fixes v) (same→eq (sem f) (full v d) (to-T q) ∙ sym (w .fixed v)) in
-      absurd-T (to-T (ap constantPair z ∙ digit-constant v)) e)
+      absurd-T (to-T (ap constantPair z ∙ both-constant v)) e)
       (λ q. q)
 
   abbrev pairLink : List Pair → Pair → Linked d

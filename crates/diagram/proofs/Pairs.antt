@@ -1,7 +1,7 @@
 -- References to inverses, and pairs of references: when two are of one class.
 -- Assumes nothing.
-use mathlib.Core.Path.{_≡_, refl, sym, ap, ap₂, _∙_, subst}
-use mathlib.Core.Bool.{Bool, true, false, not, cond, _&&_, _||_}
+use mathlib.Core.Path.{_≡_, refl, sym, ap, _∙_, subst}
+use mathlib.Core.Bool.{Bool, true, false, not, cond, _||_}
 use mathlib.Core.Logic.{⊎-elim}
 use Prim.Native.Nat.{ℕ, suc, _+_, _*_, _-_, _/_, _%_}
 use native.Mathlib.Omega.{arith}
@@ -11,7 +11,7 @@ use Rattle.diagram.specs.Lists.{flip}
 use Rattle.diagram.specs.Diagram.{Diagram, inverts, nodeAt, refers}
 use Rattle.diagram.specs.inner.Trace.{opposite}
 use Rattle.diagram.specs.inner.Exchange.{Pair, samePair, oppositePair, normalPair, sameClass}
-use Rattle.diagram.proofs.Bools.{split, to-T, and-T, and-l, and-r, or-l, or-r, or-cases, both-ways}
+use Rattle.diagram.proofs.Bools.{split, to-T, and-T, and-l, and-r, or-l, or-r, or-cases, flip-self, both-ways}
 use Rattle.diagram.proofs.Lists.{Equality}
 use Rattle.diagram.proofs.Numbers.{differ}
 
@@ -140,10 +140,6 @@ class-either f g =
     (or-cases (samePair f g) (samePair (oppositePair true f) g) t))
 
 -- whether one inverts relative to the other
-
-flip-self : (i : Bool) → flip i i ≡ false
-flip-self true = refl
-flip-self false = refl
 
 flip-other : (i : Bool) → flip (not i) i ≡ true
 flip-other true = refl

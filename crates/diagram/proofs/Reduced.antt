@@ -57,7 +57,7 @@ constant-function inv D (suc d) p r e =
     let below = constant-function inv D d (suc p) r e in
     rw e (ap₂ node below below)
 
-digit-constant : (v : Bool) → (ltb (digit v) 2 ≡ true) × (eqb (digit v) 1 ≡ v)
+pub digit-constant : (v : Bool) → (ltb (digit v) 2 ≡ true) × (eqb (digit v) 1 ≡ v)
 digit-constant true = (refl, refl)
 digit-constant false = (refl, refl)
 

@@ -12,7 +12,7 @@ use lib.ListN.{length}
 use Rattle.diagram.specs.Lists.{flip, has}
 use Rattle.diagram.specs.Tree.{Tree, leaf, node, half, at, full, halves, inverted, first, same}
 use Rattle.diagram.specs.Network.{depends, normal}
-use Rattle.diagram.proofs.Bools.{split, of-T, to-T, and-T, and-l, and-r, or-l, or-r, or-cases, flip-flip, beq→eq, beq-refl}
+use Rattle.diagram.proofs.Bools.{split, of-T, to-T, and-T, and-l, and-r, or-l, or-r, or-cases, flip-flip, flip-self, beq→eq, beq-refl}
 use Rattle.diagram.proofs.Lists.{Equality}
 
 -- equality
@@ -99,10 +99,6 @@ depends-inverted i (node l h) = ap not (same-inverted i l h)
 
 pub normal-back : {d : ℕ} (inv : Bool) (t : Tree Bool d) → inverted (inv && first t) (normal inv t) ≡ t
 normal-back inv t = inverted-inverted (inv && first t) t
-
-flip-self : (b : Bool) → flip b b ≡ false
-flip-self true = refl
-flip-self false = refl
 
 pub first-normal : {d : ℕ} (t : Tree Bool d) → first (normal true t) ≡ false
 first-normal t = first-inverted (first t) t ∙ flip-self (first t)

@@ -1,4 +1,4 @@
--- What f gives of each number below n, as a list: how long it is, what it has at an index, its first elements, one element more,
+-- What f gives of each number below n, as a list: how long it is, what it has at an index, its first elements, its first by itself, one element more,
 -- such a list in two parts, two that are equal, and a part of a list by its indices.
 -- Assumes nothing.
 use mathlib.Core.Path.{_≡_, refl, sym, ap, ap₂, _∙_}
@@ -21,6 +21,13 @@ module _ {A : Type 0} (f : ℕ → A) where
   -- one number more
   pub map-upTo-more : (n : ℕ) → map f (upTo (n + 1)) ≡ map f (upTo n) ++ (f n ∷ [])
   map-upTo-more n = rw (add-one n) (map-append f (upTo n) (n ∷ []))
+
+  -- the first by itself
+  pub map-upTo-first : (n : ℕ) → map f (upTo (suc n)) ≡ f 0 ∷ map (λ j. f (suc j)) (upTo n)
+  map-upTo-first zero = refl
+  map-upTo-first (suc n) =
+      map-append f (upTo (suc n)) (suc n ∷ []) ∙ ap (λ (l : List A). l ++ (f (suc n) ∷ [])) (map-upTo-first n)
+      ∙ ap (λ (l : List A). f 0 ∷ l) (sym (map-append (λ j. f (suc j)) (upTo n) (n ∷ [])))
 
   pub getD-map-upTo : (n j : ℕ) (d : A) → j < n → getD (map f (upTo n)) j d ≡ f j
   getD-map-upTo zero j d h = absurd (not-suc-le-zero h)
