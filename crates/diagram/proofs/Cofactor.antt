@@ -32,11 +32,11 @@ module _ (D : Diagram) where
 
   -- the cofactor of a reference to a node at the level, and of any other
 
-  cofactor-here : (q : ℕ) (b : Bool) (r : ℕ) → here true D q r ≡ true
+  pub cofactor-here : (q : ℕ) (b : Bool) (r : ℕ) → here true D q r ≡ true
       → cofactor D q b r ≡ opposite (inverts true r) (edge b (nodeAt true D r))
   cofactor-here q b r e = ap (λ (t : Bool). cond t (opposite (inverts true r) (edge b (nodeAt true D r))) r) e
 
-  cofactor-past : (q : ℕ) (b : Bool) (r : ℕ) → here true D q r ≡ false → cofactor D q b r ≡ r
+  pub cofactor-past : (q : ℕ) (b : Bool) (r : ℕ) → here true D q r ≡ false → cofactor D q b r ≡ r
   cofactor-past q b r e = ap (λ (t : Bool). cond t (opposite (inverts true r) (edge b (nodeAt true D r))) r) e
 
   -- of a reference from a later level on it is the reference

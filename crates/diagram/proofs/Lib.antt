@@ -57,3 +57,5 @@ pub mod PairTree
 pub mod Crosswise
 pub mod Crossed
 pub mod Exchange
+pub mod SameTable
+pub mod PairBounds
