@@ -30,7 +30,7 @@ each f g e q false = e
 
 module _ (n : ℕ) (D : Diagram) (w : Reduced true n D) (p : ℕ) (k : suc p < n) where
   -- the halves of an entry are such pairs of the next level
-  pub entry-half : (q : ℕ) (b : Bool) (f : Pair) → Entry D p q f → Entry D p (suc q) (halfPair D p q b f)
+  entry-half : (q : ℕ) (b : Bool) (f : Pair) → Entry D p q f → Entry D p (suc q) (halfPair D p q b f)
   entry-half q b f x =
       split (eqb q p)
       (λ e. let z : q ≡ p = eqb→eq q p (to-T e) in

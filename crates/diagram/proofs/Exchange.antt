@@ -16,8 +16,9 @@ use Rattle.diagram.specs.Fill.{Row, Link, trace}
 use Rattle.diagram.specs.Halves.{cared, traceHalves}
 use Rattle.diagram.specs.Diagram.{Diagram, refers, wellFormed}
 use Rattle.diagram.specs.Order.{isOrder}
-use Rattle.diagram.specs.Table.{reordered}
+use Rattle.diagram.specs.Table.{reordered, filled, networkOf}
 use Rattle.diagram.specs.Canonical.{computedTable, canonical}
+use Rattle.diagram.specs.inner.Trace.{tracedNetwork}
 use Rattle.diagram.specs.inner.Exchange.{Exchanged, Pair, both, entriesFrom, linksFrom, halfPair, halfPairs}
 use Rattle.diagram.specs.inner.Exchange.{levelPairs, levelLinks, exchangedTrace}
 use Rattle.diagram.proofs.Bools.{and-T, and-l, and-r}
@@ -27,6 +28,7 @@ use Rattle.diagram.proofs.Evaluate.{formed-length, formed-roots, from-t
 use Rattle.diagram.proofs.Least.{Every}
 use Rattle.diagram.proofs.Reduced.{Reduced}
 use Rattle.diagram.proofs.Canonical.{canonical-reduced}
+use Rattle.diagram.proofs.Traced.{traced}
 use Rattle.diagram.proofs.Cared.{cared-trace}
 use Rattle.diagram.proofs.CaredRows.{caredRows, cared-rows}
 use Rattle.diagram.proofs.PairLevel.{entries-every, level-pairs}
@@ -35,7 +37,6 @@ use Rattle.diagram.proofs.Crosswise.{entry-halves, stands}
 use Rattle.diagram.proofs.Crossed.{crossed-root}
 
 -- the trace by pairs, from the top down: d levels are left from level q on, and fs are the candidates' pairs
-
 abbrev pairTrace : Diagram → ℕ → (d : ℕ) → ℕ → List Pair → List (List Link)
 pairTrace D p zero q fs = linksFrom [] fs ∷ []
 pairTrace D p (suc d) q fs = linksFrom [] fs ∷ pairTrace D p d (suc q) (halfPairs D p q (entriesFrom [] fs))
@@ -49,6 +50,7 @@ halves-rows D p d q (f ∷ fs) =
     ap (λ (l : List (Tree Row d)). g false ∷ g true ∷ l) (halves-rows D p d q fs)
 
 module _ (n : ℕ) (D : Diagram) (w : Reduced true n D) (p : ℕ) (k : suc p < n) where
+  -- level by level, the filling of what pairs stand for goes by the pairs
   halves-trace : (d q : ℕ) (fs : List Pair) → q + d ≡ n → Every (Entry D p q) fs
       → traceHalves true d (map (λ f. caredRows (pairTree D p d q f)) fs) ≡ pairTrace D p d q fs
   unfolding traceHalves
@@ -108,6 +110,7 @@ cared-mapped : {A : Type 0} {d : ℕ} (f : A → Tree Bool d) (xs : List A) → 
 cared-mapped f [] = tt
 cared-mapped f (x ∷ xs) = and-T (cared (caredRows (f x))) (all cared (map (λ x. caredRows (f x)) xs)) (cared-rows (f x)) (cared-mapped f xs)
 
+-- the links of the filling are those read off the nodes
 pub exchanged-trace : (n m p : ℕ) (order other : List ℕ) (D : Diagram) → T (isOrder n order) → Exchanged n p order other → suc p < n
     → T (wellFormed true n m D) → T (canonical true n m order D)
     → trace true n (map (reordered (computedTable true n m order D) other) (upTo m)) ≡ exchangedTrace D p n (map both (D .roots))
@@ -129,3 +132,12 @@ exchanged-trace n m p order other D o x k w c =
     ∙ sym (getD-map g fs j (both 0) f₀ (omega (arith, length-map (D .roots) both)))) in
     ap (trace true n) rows ∙ cared-trace true n (map g fs) (cared-mapped (pairTree D p n 0) fs)
     ∙ halves-trace n D z p k n 0 fs (omega arith) (entry-roots D p (D .roots) roots) ∙ trace-exchanged D p fs n
+
+-- so the network that they make is section 4's network of what the diagram computes, under the other order
+pub exchanged-network : (n m p : ℕ) (order other : List ℕ) (D : Diagram) → T (isOrder n order) → Exchanged n p order other → suc p < n
+    → T (wellFormed true n m D) → T (canonical true n m order D)
+    → tracedNetwork true (exchangedTrace D p n (map both (D .roots))) ≡ networkOf true (computedTable true n m order D) other
+unfolding networkOf filled
+exchanged-network n m p order other D o x k w c =
+    ap (tracedNetwork true) (sym (exchanged-trace n m p order other D o x k w c))
+    ∙ traced true n (map (reordered (computedTable true n m order D) other) (upTo m))

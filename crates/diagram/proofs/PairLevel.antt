@@ -72,7 +72,7 @@ module _ (P : Pair → Type 0) where
   every-append [] ys x y = y
   every-append (_ ∷ xs) ys x y = (x .0, every-append xs ys (x .1) y)
 
-  pub entries-after : (gs : List Pair) (f : Pair) → Every P gs → P f → Every P (entriesAfter gs f)
+  entries-after : (gs : List Pair) (f : Pair) → Every P gs → P f → Every P (entriesAfter gs f)
   entries-after gs f y x =
       split (constantPair f || has sameClass f gs) (λ e. rw e y) (λ e. rw e (every-append gs (f ∷ []) y (x, tt)))
 

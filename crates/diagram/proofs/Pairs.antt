@@ -43,7 +43,7 @@ inverts-opposite r =
     (λ e. let q = inverts-even r e in
     ap (inverts true) (opposite-even r e) ∙ odd-inverts (suc r) (omega arith) ∙ ap not (sym e))
 
-pub opposite-opposite : (r : ℕ) → opposite true (opposite true r) ≡ r
+opposite-opposite : (r : ℕ) → opposite true (opposite true r) ≡ r
 opposite-opposite r =
     split (inverts true r)
     (λ e. let q = inverts-odd r e in
@@ -102,7 +102,7 @@ pair-equality = record { sound = pair-sound; self = pair-self }
 eq-pair : {f g : Pair} → f ≡ g → T (samePair f g)
 eq-pair {f} e = subst (λ (g : Pair). T (samePair f g)) e (pair-self f)
 
-pub pair-opposite : (f : Pair) → oppositePair true (oppositePair true f) ≡ f
+pair-opposite : (f : Pair) → oppositePair true (oppositePair true f) ≡ f
 pair-opposite f = pair-equal _ f (opposite-opposite (f .low)) (opposite-opposite (f .high))
 
 pair-back : (i : Bool) (f : Pair) → f ≡ oppositePair i (oppositePair i f)
