@@ -33,14 +33,14 @@ module _ (D : Diagram) where
   -- the cofactor of a reference to a node at the level, and of any other
 
   pub cofactor-here : (q : ℕ) (b : Bool) (r : ℕ) → here true D q r ≡ true
-      → cofactor D q b r ≡ opposite (inverts true r) (edge b (nodeAt true D r))
+      → cofactor (nodeAt true D) q b r ≡ opposite (inverts true r) (edge b (nodeAt true D r))
   cofactor-here q b r e = ap (λ (t : Bool). cond t (opposite (inverts true r) (edge b (nodeAt true D r))) r) e
 
-  pub cofactor-past : (q : ℕ) (b : Bool) (r : ℕ) → here true D q r ≡ false → cofactor D q b r ≡ r
+  pub cofactor-past : (q : ℕ) (b : Bool) (r : ℕ) → here true D q r ≡ false → cofactor (nodeAt true D) q b r ≡ r
   cofactor-past q b r e = ap (λ (t : Bool). cond t (opposite (inverts true r) (edge b (nodeAt true D r))) r) e
 
   -- of a reference from a later level on it is the reference
-  pub cofactor-later : (q : ℕ) (b : Bool) (r : ℕ) → T (from true D (suc q) r) → cofactor D q b r ≡ r
+  pub cofactor-later : (q : ℕ) (b : Bool) (r : ℕ) → T (from true D (suc q) r) → cofactor (nodeAt true D) q b r ≡ r
   cofactor-later q b r t =
       cofactor-past q b r
       (split (here true D q r)
@@ -49,11 +49,12 @@ module _ (D : Diagram) where
       absurd (omega arith))
       (λ e. e))
 
-  pub cofactor-constant : (q : ℕ) (b : Bool) (r : ℕ) → ltb r 2 ≡ true → cofactor D q b r ≡ r
+  pub cofactor-constant : (q : ℕ) (b : Bool) (r : ℕ) → ltb r 2 ≡ true → cofactor (nodeAt true D) q b r ≡ r
   cofactor-constant q b r e = cofactor-past q b r (ap (λ (t : Bool). not t && eqb (nodeAt true D r .level) q) e)
 
   -- the cofactor of the inverse is the inverse of the cofactor
-  pub cofactor-opposite : (q : ℕ) (b : Bool) (r : ℕ) → cofactor D q b (opposite true r) ≡ opposite true (cofactor D q b r)
+  pub cofactor-opposite : (q : ℕ) (b : Bool) (r : ℕ)
+      → cofactor (nodeAt true D) q b (opposite true r) ≡ opposite true (cofactor (nodeAt true D) q b r)
   cofactor-opposite q b r =
       split (here true D q r)
       (λ e. cofactor-here q b (opposite true r) (here-opposite q r ∙ e)
@@ -72,7 +73,7 @@ constant-opposite (suc zero) e = refl
 constant-opposite (suc (suc r)) e = absurd-T (to-T e) (not-below (suc (suc r)) 2 (omega arith))
 
 module _ (n : ℕ) (D : Diagram) (w : Reduced true n D) where
-  pub cofactor-from : (q : ℕ) (b : Bool) (r : ℕ) → T (from true D q r) → T (from true D (suc q) (cofactor D q b r))
+  pub cofactor-from : (q : ℕ) (b : Bool) (r : ℕ) → T (from true D q r) → T (from true D (suc q) (cofactor (nodeAt true D) q b r))
   cofactor-from q b r t =
       split (here true D q r)
       (λ e. subst (λ (s : ℕ). T (from true D (suc q) s)) (sym (cofactor-here D q b r e))
@@ -100,7 +101,7 @@ module _ (n : ℕ) (D : Diagram) (w : Reduced true n D) where
 
   -- a half of a reference's function is its cofactor's
   pub half-cofactor : (b : Bool) (d q r : ℕ) → q + suc d ≡ n → T (from true D q r)
-      → half b (function true D (suc d) q r) ≡ function true D d (suc q) (cofactor D q b r)
+      → half b (function true D (suc d) q r) ≡ function true D d (suc q) (cofactor (nodeAt true D) q b r)
   half-cofactor b d q r e t =
       split (here true D q r)
       (λ h. half-here true n D w b d q r h
@@ -110,7 +111,7 @@ module _ (n : ℕ) (D : Diagram) (w : Reduced true n D) where
 
   -- both cofactors tell the reference
   pub cofactor-injective : (q r s : ℕ) → q < n → T (from true D q r) → T (from true D q s)
-      → ((b : Bool) → cofactor D q b r ≡ cofactor D q b s) → r ≡ s
+      → ((b : Bool) → cofactor (nodeAt true D) q b r ≡ cofactor (nodeAt true D) q b s) → r ≡ s
   cofactor-injective q r s h t u f =
       let d = n - suc q in
       let e : q + suc d ≡ n = omega arith in

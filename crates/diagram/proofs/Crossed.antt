@@ -10,7 +10,7 @@ use lib.Dec.{T, eqb, eqb→eq, eqb-refl, eqb·zero-suc, eqb·suc-suc}
 use lib.ListN.{getD}
 use Rattle.diagram.specs.Lists.{index, rowNumber, bit}
 use Rattle.diagram.specs.Tree.{half, at}
-use Rattle.diagram.specs.Diagram.{Diagram}
+use Rattle.diagram.specs.Diagram.{Diagram, nodeAt}
 use Rattle.diagram.specs.Order.{rowUnder}
 use Rattle.diagram.specs.Table.{reordered}
 use Rattle.diagram.specs.Canonical.{computedTable}
@@ -51,11 +51,12 @@ module _ (n : ℕ) (D : Diagram) (w : Reduced true n D) (p : ℕ) (k : suc p < n
       → at q a (pairTree D p (suc d) q (both r)) ≡ at q (swapped p a) (function true D (suc d) q r)
   tree-plain d q r e u v t below =
       let b = a q in
-      let s = cofactor D q b r in
+      let s = cofactor (nodeAt true D) q b r in
       let f = function true D (suc d) q r in
       at-half q a (pairTree D p (suc d) q (both r))
       ∙ ap (at (suc q) a) (half-tree D p d q b (both r)
-      ∙ ap (pairTree D p d (suc q)) (half-plain D p q b (both r) u ∙ ap (λ (x : ℕ). both (cofactor D q b x)) (cond-same b r)))
+      ∙ ap (pairTree D p d (suc q)) (half-plain (nodeAt true D) p q b (both r) u
+      ∙ ap (λ (x : ℕ). both (cofactor (nodeAt true D) q b x)) (cond-same b r)))
       ∙ below s (cofactor-from n D w q b r t) ∙ ap (at (suc q) (swapped p a)) (sym (half-cofactor n D w b d q r e t))
       ∙ ap (λ (c : Bool). at (suc q) (swapped p a) (half c f)) (sym (swapped-other p a q u v)) ∙ sym (at-half q (swapped p a) f)
 
@@ -67,26 +68,29 @@ module _ (n : ℕ) (D : Diagram) (w : Reduced true n D) (p : ℕ) (k : suc p < n
   tree-cross d r e t below =
       let c = a p in
       let b = a (suc p) in
-      let u = cofactor D p b r in
-      let s = cofactor D (suc p) c u in
-      let g = pair (cofactor D (suc p) c (cofactor D p false r)) (cofactor D (suc p) c (cofactor D p true r)) in
+      let u = cofactor (nodeAt true D) p b r in
+      let s = cofactor (nodeAt true D) (suc p) c u in
+      let g = pair (cofactor (nodeAt true D) (suc p) c (cofactor (nodeAt true D) p false r))
+      (cofactor (nodeAt true D) (suc p) c (cofactor (nodeAt true D) p true r)) in
       let f = function true D (suc (suc d)) p r in
       let h : T (from true D (suc (suc p)) s) = cofactor-from n D w (suc p) c u (cofactor-from n D w p b r t) in
       at-half p a (pairTree D p (suc (suc d)) p (both r))
       ∙ ap (at (suc p) a) (half-tree D p (suc d) p c (both r)
-      ∙ ap (pairTree D p (suc d) (suc p)) (half-cross D p p c (both r) (of-T (eqb-refl p))))
+      ∙ ap (pairTree D p (suc d) (suc p)) (half-cross (nodeAt true D) p p c (both r) (of-T (eqb-refl p))))
       ∙ at-half (suc p) a (pairTree D p (suc d) (suc p) g)
       ∙ ap (at (suc (suc p)) a) (half-tree D p d (suc p) b g
-      ∙ ap (pairTree D p d (suc (suc p))) (half-plain D p (suc p) b g (unequal (suc p) p (λ z. omega arith))
-      ∙ ap both (ap (cofactor D (suc p) b) (side b c) ∙ cofactor-later D (suc p) b s h)))
+      ∙ ap (pairTree D p d (suc (suc p))) (half-plain (nodeAt true D) p (suc p) b g (unequal (suc p) p (λ z. omega arith))
+      ∙ ap both (ap (cofactor (nodeAt true D) (suc p) b) (side b c) ∙ cofactor-later D (suc p) b s h)))
       ∙ below s h
       ∙ ap (at (suc (suc p)) (swapped p a)) (sym (half-cofactor n D w c d (suc p) u (omega arith) (cofactor-from n D w p b r t))
       ∙ ap (half c) (sym (half-cofactor n D w b (suc d) p r e t)))
       ∙ ap₂ (λ (x y : Bool). at (suc (suc p)) (swapped p a) (half x (half y f))) (sym (swapped-lower p a)) (sym (swapped-upper p a))
       ∙ sym (at-half p (swapped p a) f ∙ at-half (suc p) (swapped p a) (half (swapped p a p) f))
     where
-      side : (b c : Bool) → cond b (cofactor D (suc p) c (cofactor D p true r)) (cofactor D (suc p) c (cofactor D p false r))
-          ≡ cofactor D (suc p) c (cofactor D p b r)
+      side : (b c : Bool)
+          → cond b (cofactor (nodeAt true D) (suc p) c (cofactor (nodeAt true D) p true r))
+          (cofactor (nodeAt true D) (suc p) c (cofactor (nodeAt true D) p false r))
+          ≡ cofactor (nodeAt true D) (suc p) c (cofactor (nodeAt true D) p b r)
       side true c = refl
       side false c = refl
 

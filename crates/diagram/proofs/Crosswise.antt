@@ -9,7 +9,7 @@ use native.Mathlib.Omega.{arith}
 use lib.Dec.{T, eqb, eqb→eq, eqb·suc-suc}
 use Rattle.diagram.specs.Lists.{digit}
 use Rattle.diagram.specs.Tree.{leaf, node, half, full, first, inverted}
-use Rattle.diagram.specs.Diagram.{Diagram}
+use Rattle.diagram.specs.Diagram.{Diagram, nodeAt}
 use Rattle.diagram.specs.inner.Exchange.{Pair, oppositePair, cofactor, halfPair, halfPairs}
 use Rattle.diagram.proofs.Bools.{split, to-T, absurd-T}
 use Rattle.diagram.proofs.Numbers.{unequal}
@@ -30,30 +30,32 @@ each f g e q false = e
 
 module _ (n : ℕ) (D : Diagram) (w : Reduced true n D) (p : ℕ) (k : suc p < n) where
   -- the halves of an entry are such pairs of the next level
-  entry-half : (q : ℕ) (b : Bool) (f : Pair) → Entry D p q f → Entry D p (suc q) (halfPair D p q b f)
+  entry-half : (q : ℕ) (b : Bool) (f : Pair) → Entry D p q f → Entry D p (suc q) (halfPair (nodeAt true D) p q b f)
   entry-half q b f x =
       split (eqb q p)
       (λ e. let z : q ≡ p = eqb→eq q p (to-T e) in
       let s : eqb (suc q) (suc p) ≡ true = eqb·suc-suc q p ∙ e in
       let l : suc (suc p) ≡ start D p (suc q) = ap (λ (y : ℕ). suc (suc y)) (sym z) ∙ rw s in
-      let deep : (c : Bool) (r : ℕ) → T (from true D q r) → T (from true D (start D p (suc q)) (cofactor D (suc p) b (cofactor D p c r))) =
-      λ c r t. subst (λ (y : ℕ). T (from true D y (cofactor D (suc p) b (cofactor D p c r)))) l
-      (cofactor-from n D w (suc p) b (cofactor D p c r) (cofactor-from n D w p c r (subst (λ (y : ℕ). T (from true D y r)) z t))) in
-      subst (Entry D p (suc q)) (sym (half-cross D p q b f e))
+      let deep : (c : Bool) (r : ℕ) → T (from true D q r)
+      → T (from true D (start D p (suc q)) (cofactor (nodeAt true D) (suc p) b (cofactor (nodeAt true D) p c r))) =
+      λ c r t. subst (λ (y : ℕ). T (from true D y (cofactor (nodeAt true D) (suc p) b (cofactor (nodeAt true D) p c r)))) l
+      (cofactor-from n D w (suc p) b (cofactor (nodeAt true D) p c r)
+      (cofactor-from n D w p c r (subst (λ (y : ℕ). T (from true D y r)) z t))) in
+      subst (Entry D p (suc q)) (sym (half-cross (nodeAt true D) p q b f e))
       (record {
         lows = deep false (f .low) (start-from D p q (f .low) (x .lows));
         highs = deep true (f .high) (start-from D p q (f .high) (x .highs));
         one = λ v. absurd-T (to-T s) v;
       }))
-      (λ e. subst (Entry D p (suc q)) (sym (half-plain D p q b f e))
-      (entry-both D p (suc q) (cofactor D q b (cond b (f .high) (f .low))) (eqb·suc-suc q p ∙ e)
+      (λ e. subst (Entry D p (suc q)) (sym (half-plain (nodeAt true D) p q b f e))
+      (entry-both D p (suc q) (cofactor (nodeAt true D) q b (cond b (f .high) (f .low))) (eqb·suc-suc q p ∙ e)
       (cofactor-from n D w q b (cond b (f .high) (f .low)) (side b))))
     where
       side : (c : Bool) → T (from true D q (cond c (f .high) (f .low)))
       side true = start-from D p q (f .high) (x .highs)
       side false = start-from D p q (f .low) (x .lows)
 
-  pub entry-halves : (q : ℕ) (fs : List Pair) → Every (Entry D p q) fs → Every (Entry D p (suc q)) (halfPairs D p q fs)
+  pub entry-halves : (q : ℕ) (fs : List Pair) → Every (Entry D p q) fs → Every (Entry D p (suc q)) (halfPairs (nodeAt true D) p q fs)
   entry-halves q [] x = tt
   entry-halves q (f ∷ fs) x = (entry-half q false f (x .0), (entry-half q true f (x .0), entry-halves q fs (x .1)))
 
@@ -62,10 +64,10 @@ module _ (n : ℕ) (D : Diagram) (w : Reduced true n D) (p : ℕ) (k : suc p < n
       → pairTree D p d q (oppositePair true f) ≡ inverted true (pairTree D p d q f)
   tree-turned zero q f e x = ap leaf (constant-opposite (f .low) (last true n D w q (f .low) e (start-from D p q (f .low) (x .lows))))
   tree-turned (suc d) q f e x =
-      let below : (b : Bool) → pairTree D p d (suc q) (halfPair D p q b (oppositePair true f))
-      ≡ inverted true (pairTree D p d (suc q) (halfPair D p q b f)) =
+      let below : (b : Bool) → pairTree D p d (suc q) (halfPair (nodeAt true D) p q b (oppositePair true f))
+      ≡ inverted true (pairTree D p d (suc q) (halfPair (nodeAt true D) p q b f)) =
       λ b. ap (pairTree D p d (suc q)) (half-opposite D p q b f)
-      ∙ tree-turned d (suc q) (halfPair D p q b f) (omega arith) (entry-half q b f x) in
+      ∙ tree-turned d (suc q) (halfPair (nodeAt true D) p q b f) (omega arith) (entry-half q b f x) in
       ap₂ node (below false) (below true)
 
   -- where a pair is one reference, its low tells it
@@ -74,11 +76,12 @@ module _ (n : ℕ) (D : Diagram) (w : Reduced true n D) (p : ℕ) (k : suc p < n
 
   -- both halves tell the pair
   half-injective : (q : ℕ) (f g : Pair) → q < n → Entry D p q f → Entry D p q g
-      → ((b : Bool) → halfPair D p q b f ≡ halfPair D p q b g) → f ≡ g
+      → ((b : Bool) → halfPair (nodeAt true D) p q b f ≡ halfPair (nodeAt true D) p q b g) → f ≡ g
   half-injective q f g h x y s =
       split (eqb q p) cross
-      (λ e. let c : (b : Bool) → cofactor D q b (cond b (f .high) (f .low)) ≡ cofactor D q b (cond b (g .high) (g .low)) =
-      λ b. ap (λ (m : Pair). m .low) (sym (half-plain D p q b f e) ∙ s b ∙ half-plain D p q b g e) in
+      (λ e. let c : (b : Bool) → cofactor (nodeAt true D) q b (cond b (f .high) (f .low))
+      ≡ cofactor (nodeAt true D) q b (cond b (g .high) (g .low)) =
+      λ b. ap (λ (m : Pair). m .low) (sym (half-plain (nodeAt true D) p q b f e) ∙ s b ∙ half-plain (nodeAt true D) p q b g e) in
       split (eqb q (suc p)) (λ v. under v c) (λ v. plain v c))
     where
       at-p : eqb q p ≡ true → (r : ℕ) → T (from true D (start D p q) r) → T (from true D p r)
@@ -90,35 +93,35 @@ module _ (n : ℕ) (D : Diagram) (w : Reduced true n D) (p : ℕ) (k : suc p < n
           let z : q ≡ p = eqb→eq q p (to-T e) in
           let v : eqb q (suc p) ≡ false = unequal q (suc p) (λ y. omega arith) in
           let t = at-p e in
-          let lo : cofactor D p false (f .low) ≡ cofactor D p false (g .low) =
-          cofactor-injective n D w (suc p) (cofactor D p false (f .low)) (cofactor D p false (g .low)) k
+          let lo : cofactor (nodeAt true D) p false (f .low) ≡ cofactor (nodeAt true D) p false (g .low) =
+          cofactor-injective n D w (suc p) (cofactor (nodeAt true D) p false (f .low)) (cofactor (nodeAt true D) p false (g .low)) k
           (cofactor-from n D w p false (f .low) (t (f .low) (x .lows))) (cofactor-from n D w p false (g .low) (t (g .low) (y .lows)))
-          (λ b. ap (λ (m : Pair). m .low) (sym (half-cross D p q b f e) ∙ s b ∙ half-cross D p q b g e)) in
-          let hi : cofactor D p true (f .high) ≡ cofactor D p true (g .high) =
-          cofactor-injective n D w (suc p) (cofactor D p true (f .high)) (cofactor D p true (g .high)) k
+          (λ b. ap (λ (m : Pair). m .low) (sym (half-cross (nodeAt true D) p q b f e) ∙ s b ∙ half-cross (nodeAt true D) p q b g e)) in
+          let hi : cofactor (nodeAt true D) p true (f .high) ≡ cofactor (nodeAt true D) p true (g .high) =
+          cofactor-injective n D w (suc p) (cofactor (nodeAt true D) p true (f .high)) (cofactor (nodeAt true D) p true (g .high)) k
           (cofactor-from n D w p true (f .high) (t (f .high) (x .highs))) (cofactor-from n D w p true (g .high) (t (g .high) (y .highs)))
-          (λ b. ap (λ (m : Pair). m .high) (sym (half-cross D p q b f e) ∙ s b ∙ half-cross D p q b g e)) in
+          (λ b. ap (λ (m : Pair). m .high) (sym (half-cross (nodeAt true D) p q b f e) ∙ s b ∙ half-cross (nodeAt true D) p q b g e)) in
           entry-equal q f g x y v
           (cofactor-injective n D w p (f .low) (g .low) (omega arith) (t (f .low) (x .lows)) (t (g .low) (y .lows))
-          (each (λ b. cofactor D p b (f .low)) (λ b. cofactor D p b (g .low)) lo
-          (ap (cofactor D p true) (x .one v) ∙ hi ∙ ap (cofactor D p true) (sym (y .one v)))))
+          (each (λ b. cofactor (nodeAt true D) p b (f .low)) (λ b. cofactor (nodeAt true D) p b (g .low)) lo
+          (ap (cofactor (nodeAt true D) p true) (x .one v) ∙ hi ∙ ap (cofactor (nodeAt true D) p true) (sym (y .one v)))))
 
       -- at level p + 1 each half is one of the pair
-      under : eqb q (suc p) ≡ true
-          → ((b : Bool) → cofactor D q b (cond b (f .high) (f .low)) ≡ cofactor D q b (cond b (g .high) (g .low))) → f ≡ g
+      under : eqb q (suc p) ≡ true → ((b : Bool) → cofactor (nodeAt true D) q b (cond b (f .high) (f .low))
+          ≡ cofactor (nodeAt true D) q b (cond b (g .high) (g .low))) → f ≡ g
       under v c =
-          let t : (b : Bool) (r : ℕ) → T (from true D (start D p q) r) → cofactor D q b r ≡ r =
+          let t : (b : Bool) (r : ℕ) → T (from true D (start D p q) r) → cofactor (nodeAt true D) q b r ≡ r =
           λ b r u. cofactor-later D q b r (start-deep D p q r v u) in
           pair-equal f g (sym (t false (f .low) (x .lows)) ∙ c false ∙ t false (g .low) (y .lows))
           (sym (t true (f .high) (x .highs)) ∙ c true ∙ t true (g .high) (y .highs))
 
-      plain : eqb q (suc p) ≡ false
-          → ((b : Bool) → cofactor D q b (cond b (f .high) (f .low)) ≡ cofactor D q b (cond b (g .high) (g .low))) → f ≡ g
+      plain : eqb q (suc p) ≡ false → ((b : Bool) → cofactor (nodeAt true D) q b (cond b (f .high) (f .low))
+          ≡ cofactor (nodeAt true D) q b (cond b (g .high) (g .low))) → f ≡ g
       plain v c =
           entry-equal q f g x y v
           (cofactor-injective n D w q (f .low) (g .low) h (start-from D p q (f .low) (x .lows)) (start-from D p q (g .low) (y .lows))
-          (each (λ b. cofactor D q b (f .low)) (λ b. cofactor D q b (g .low)) (c false)
-          (ap (cofactor D q true) (x .one v) ∙ c true ∙ ap (cofactor D q true) (sym (y .one v)))))
+          (each (λ b. cofactor (nodeAt true D) q b (f .low)) (λ b. cofactor (nodeAt true D) q b (g .low)) (c false)
+          (ap (cofactor (nodeAt true D) q true) (x .one v) ∙ c true ∙ ap (cofactor (nodeAt true D) q true) (sym (y .one v)))))
 
   tree-injective : (d q : ℕ) (f g : Pair) → q + d ≡ n → Entry D p q f → Entry D p q g
       → pairTree D p d q f ≡ pairTree D p d q g → f ≡ g
@@ -129,7 +132,8 @@ module _ (n : ℕ) (D : Diagram) (w : Reduced true n D) (p : ℕ) (k : suc p < n
       (t (f .low) (x .lows) ∙ ap digit (ap first s) ∙ sym (t (g .low) (y .lows)))
   tree-injective (suc d) q f g e x y s =
       half-injective q f g (omega arith) x y
-      (λ b. tree-injective d (suc q) (halfPair D p q b f) (halfPair D p q b g) (omega arith) (entry-half q b f x) (entry-half q b g y)
+      (λ b. tree-injective d (suc q) (halfPair (nodeAt true D) p q b f) (halfPair (nodeAt true D) p q b g) (omega arith)
+      (entry-half q b f x) (entry-half q b g y)
       (sym (half-tree D p d q b f) ∙ ap (half b) s ∙ half-tree D p d q b g))
 
   -- so a level goes by its pairs

@@ -14,7 +14,7 @@ use Rattle.diagram.specs.Lists.{all, upTo}
 use Rattle.diagram.specs.Tree.{Tree, halves}
 use Rattle.diagram.specs.Fill.{Row, Link, trace}
 use Rattle.diagram.specs.Halves.{cared, traceHalves}
-use Rattle.diagram.specs.Diagram.{Diagram, refers, wellFormed}
+use Rattle.diagram.specs.Diagram.{Node, Diagram, nodeAt, refers, wellFormed}
 use Rattle.diagram.specs.Order.{isOrder}
 use Rattle.diagram.specs.Table.{reordered, filled, networkOf}
 use Rattle.diagram.specs.Canonical.{computedTable, canonical}
@@ -37,22 +37,23 @@ use Rattle.diagram.proofs.Crosswise.{entry-halves, stands}
 use Rattle.diagram.proofs.Crossed.{crossed-root}
 
 -- the trace by pairs, from the top down: d levels are left from level q on, and fs are the candidates' pairs
-abbrev pairTrace : Diagram → ℕ → (d : ℕ) → ℕ → List Pair → List (List Link)
-pairTrace D p zero q fs = linksFrom [] fs ∷ []
-pairTrace D p (suc d) q fs = linksFrom [] fs ∷ pairTrace D p d (suc q) (halfPairs D p q (entriesFrom [] fs))
+abbrev pairTrace : (ℕ → Node) → ℕ → (d : ℕ) → ℕ → List Pair → List (List Link)
+pairTrace node p zero q fs = linksFrom [] fs ∷ []
+pairTrace node p (suc d) q fs = linksFrom [] fs ∷ pairTrace node p d (suc q) (halfPairs node p q (entriesFrom [] fs))
 
 -- the halves of what pairs stand for
 halves-rows : (D : Diagram) (p d q : ℕ) (fs : List Pair)
-    → halves (map (λ f. caredRows (pairTree D p (suc d) q f)) fs) ≡ map (λ f. caredRows (pairTree D p d (suc q) f)) (halfPairs D p q fs)
+    → halves (map (λ f. caredRows (pairTree D p (suc d) q f)) fs)
+    ≡ map (λ f. caredRows (pairTree D p d (suc q) f)) (halfPairs (nodeAt true D) p q fs)
 halves-rows D p d q [] = refl
 halves-rows D p d q (f ∷ fs) =
-    let g : Bool → Tree Row d = λ b. caredRows (pairTree D p d (suc q) (halfPair D p q b f)) in
+    let g : Bool → Tree Row d = λ b. caredRows (pairTree D p d (suc q) (halfPair (nodeAt true D) p q b f)) in
     ap (λ (l : List (Tree Row d)). g false ∷ g true ∷ l) (halves-rows D p d q fs)
 
 module _ (n : ℕ) (D : Diagram) (w : Reduced true n D) (p : ℕ) (k : suc p < n) where
   -- level by level, the filling of what pairs stand for goes by the pairs
   halves-trace : (d q : ℕ) (fs : List Pair) → q + d ≡ n → Every (Entry D p q) fs
-      → traceHalves true d (map (λ f. caredRows (pairTree D p d q f)) fs) ≡ pairTrace D p d q fs
+      → traceHalves true d (map (λ f. caredRows (pairTree D p d q f)) fs) ≡ pairTrace (nodeAt true D) p d q fs
   unfolding traceHalves
   halves-trace zero q fs e x =
       ap (λ l. l .links ∷ []) (level-pairs (pairTree D p zero q) (Entry D p q) (stands n D w p k zero q e) [] fs tt x)
@@ -62,41 +63,41 @@ module _ (n : ℕ) (D : Diagram) (w : Reduced true n D) (p : ℕ) (k : suc p < n
       (level-pairs (pairTree D p (suc d) q) (Entry D p q) (stands n D w p k (suc d) q e) [] fs tt x)
       ∙ ap (λ (l : List (List Link)). linksFrom [] fs ∷ l)
       (ap (traceHalves true d) (halves-rows D p d q es)
-      ∙ halves-trace d (suc q) (halfPairs D p q es) (omega arith)
+      ∙ halves-trace d (suc q) (halfPairs (nodeAt true D) p q es) (omega arith)
       (entry-halves n D w p k q es (entries-every (Entry D p q) [] fs tt x)))
 
 -- the candidates' pairs of level q, where fs are the outputs'
-abbrev seen : Diagram → ℕ → List Pair → ℕ → List Pair
-seen D p fs zero = fs
-seen D p fs (suc q) = halfPairs D p q (levelPairs D p fs q)
+abbrev seen : (ℕ → Node) → ℕ → List Pair → ℕ → List Pair
+seen node p fs zero = fs
+seen node p fs (suc q) = halfPairs node p q (levelPairs node p fs q)
 
-module _ (D : Diagram) (p : ℕ) (fs : List Pair) where
-  level-seen : (q : ℕ) → levelPairs D p fs q ≡ entriesFrom [] (seen D p fs q)
+module _ (node : ℕ → Node) (p : ℕ) (fs : List Pair) where
+  level-seen : (q : ℕ) → levelPairs node p fs q ≡ entriesFrom [] (seen node p fs q)
   unfolding levelPairs
   level-seen zero = refl
   level-seen (suc q) = refl
 
-  links-seen : (q : ℕ) → levelLinks D p fs q ≡ linksFrom [] (seen D p fs (suc q))
+  links-seen : (q : ℕ) → levelLinks node p fs q ≡ linksFrom [] (seen node p fs (suc q))
   unfolding levelLinks
   links-seen q = refl
 
   -- level by level it is the trace from the top down
   trace-seen : (d q : ℕ)
-      → pairTrace D p d q (seen D p fs q) ≡ linksFrom [] (seen D p fs q) ∷ map (λ j. levelLinks D p fs (q + j)) (upTo d)
+      → pairTrace node p d q (seen node p fs q) ≡ linksFrom [] (seen node p fs q) ∷ map (λ j. levelLinks node p fs (q + j)) (upTo d)
   trace-seen zero q = refl
   trace-seen (suc d) q =
-      ap (λ (l : List (List Link)). linksFrom [] (seen D p fs q) ∷ l)
-      (ap (λ (es : List Pair). pairTrace D p d (suc q) (halfPairs D p q es)) (sym (level-seen q))
+      ap (λ (l : List (List Link)). linksFrom [] (seen node p fs q) ∷ l)
+      (ap (λ (es : List Pair). pairTrace node p d (suc q) (halfPairs node p q es)) (sym (level-seen q))
       ∙ trace-seen d (suc q)
-      ∙ sym (map-upTo-first (λ j. levelLinks D p fs (q + j)) d
-      ∙ ap₂ (λ (x : List Link) (l : List (List Link)). x ∷ l) (ap (levelLinks D p fs) (add-zero q) ∙ links-seen q)
-      (map-upTo-cong d (λ j. levelLinks D p fs (q + suc j)) (λ j. levelLinks D p fs (suc q + j))
-      (λ j h. ap (levelLinks D p fs) (omega arith)))))
+      ∙ sym (map-upTo-first (λ j. levelLinks node p fs (q + j)) d
+      ∙ ap₂ (λ (x : List Link) (l : List (List Link)). x ∷ l) (ap (levelLinks node p fs) (add-zero q) ∙ links-seen q)
+      (map-upTo-cong d (λ j. levelLinks node p fs (q + suc j)) (λ j. levelLinks node p fs (suc q + j))
+      (λ j h. ap (levelLinks node p fs) (omega arith)))))
 
-  trace-exchanged : (n : ℕ) → pairTrace D p n 0 fs ≡ exchangedTrace D p n fs
+  trace-exchanged : (n : ℕ) → pairTrace node p n 0 fs ≡ exchangedTrace node p n fs
   unfolding exchangedTrace
   trace-exchanged n = trace-seen n 0 ∙ ap (λ (l : List (List Link)). linksFrom [] fs ∷ l)
-      (map-upTo-cong n (λ j. levelLinks D p fs (0 + j)) (levelLinks D p fs) (λ j h. ap (levelLinks D p fs) (zero-add j)))
+      (map-upTo-cong n (λ j. levelLinks node p fs (0 + j)) (levelLinks node p fs) (λ j h. ap (levelLinks node p fs) (zero-add j)))
 
 -- the roots' pairs are entries of the top level
 entry-roots : (D : Diagram) (p : ℕ) (rs : List ℕ) → T (all (refers true D) rs) → Every (Entry D p 0) (map both rs)
@@ -113,7 +114,8 @@ cared-mapped f (x ∷ xs) = and-T (cared (caredRows (f x))) (all cared (map (λ 
 -- the links of the filling are those read off the nodes
 pub exchanged-trace : (n m p : ℕ) (order other : List ℕ) (D : Diagram) → T (isOrder n order) → Exchanged n p order other → suc p < n
     → T (wellFormed true n m D) → T (canonical true n m order D)
-    → trace true n (map (reordered (computedTable true n m order D) other) (upTo m)) ≡ exchangedTrace D p n (map both (D .roots))
+    → trace true n (map (reordered (computedTable true n m order D) other) (upTo m))
+    ≡ exchangedTrace (nodeAt true D) p n (map both (D .roots))
 exchanged-trace n m p order other D o x k w c =
     let z = canonical-reduced true n m order D o w c in
     let t = computedTable true n m order D in
@@ -127,16 +129,17 @@ exchanged-trace n m p order other D o x k w c =
     (length-map-upTo (reordered t other) m ∙ sym long ∙ sym (length-map fs g ∙ length-map (D .roots) both))
     (λ j h. let i : j < m = omega (arith, length-map-upTo (reordered t other) m) in
     getD-map-upTo (reordered t other) m j f₀ i
-    ∙ crossed-root n m order other D z p k x j (from-top true D (getD (D .roots) j 0) (all-at (refers true D) (D .roots) roots j 0 (omega arith)))
+    ∙ crossed-root n m order other D z p k x j
+    (from-top true D (getD (D .roots) j 0) (all-at (refers true D) (D .roots) roots j 0 (omega arith)))
     ∙ ap g (sym (getD-map both (D .roots) j 0 (both 0) (omega arith)))
     ∙ sym (getD-map g fs j (both 0) f₀ (omega (arith, length-map (D .roots) both)))) in
     ap (trace true n) rows ∙ cared-trace true n (map g fs) (cared-mapped (pairTree D p n 0) fs)
-    ∙ halves-trace n D z p k n 0 fs (omega arith) (entry-roots D p (D .roots) roots) ∙ trace-exchanged D p fs n
+    ∙ halves-trace n D z p k n 0 fs (omega arith) (entry-roots D p (D .roots) roots) ∙ trace-exchanged (nodeAt true D) p fs n
 
 -- so the network that they make is section 4's network of what the diagram computes, under the other order
 pub exchanged-network : (n m p : ℕ) (order other : List ℕ) (D : Diagram) → T (isOrder n order) → Exchanged n p order other → suc p < n
     → T (wellFormed true n m D) → T (canonical true n m order D)
-    → tracedNetwork true (exchangedTrace D p n (map both (D .roots))) ≡ networkOf true (computedTable true n m order D) other
+    → tracedNetwork true (exchangedTrace (nodeAt true D) p n (map both (D .roots))) ≡ networkOf true (computedTable true n m order D) other
 unfolding networkOf filled
 exchanged-network n m p order other D o x k w c =
     ap (tracedNetwork true) (sym (exchanged-trace n m p order other D o x k w c))

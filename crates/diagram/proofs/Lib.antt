@@ -59,3 +59,4 @@ pub mod Crossed
 pub mod Exchange
 pub mod SameTable
 pub mod PairBounds
+pub mod OwnNodes

@@ -7,7 +7,7 @@ use Prim.Native.Nat.{ℕ, zero, suc}
 use native.Mathlib.Omega.{arith}
 use lib.Dec.{T, eqb, ltb}
 use Rattle.diagram.specs.Tree.{Tree, leaf, node, half, full}
-use Rattle.diagram.specs.Diagram.{Diagram}
+use Rattle.diagram.specs.Diagram.{Node, Diagram, nodeAt}
 use Rattle.diagram.specs.inner.Trace.{opposite}
 use Rattle.diagram.specs.inner.Exchange.{Pair, pair, both, oppositePair, cofactor, halfPair}
 use Rattle.diagram.proofs.Bools.{split}
@@ -15,55 +15,64 @@ use Rattle.diagram.proofs.Tree.{cond-same}
 use Rattle.diagram.proofs.Reference.{from, from-constant, from-sooner}
 use Rattle.diagram.proofs.Cofactor.{from-opposite, cofactor-constant, cofactor-opposite}
 
-module _ (D : Diagram) (p : ℕ) where
-  abbrev pub pairTree : (d : ℕ) → ℕ → Pair → Tree Bool d
-  pairTree zero q f = leaf (eqb (f .low) 1)
-  pairTree (suc d) q f = node (pairTree d (suc q) (halfPair D p q false f)) (pairTree d (suc q) (halfPair D p q true f))
-
-  pub half-tree : (d q : ℕ) (b : Bool) (f : Pair) → half b (pairTree (suc d) q f) ≡ pairTree d (suc q) (halfPair D p q b f)
-  half-tree d q true f = refl
-  half-tree d q false f = refl
-
+module _ (node : ℕ → Node) (p : ℕ) where
   -- the halves of a pair, at level p and at any other
 
   pub half-cross : (q : ℕ) (b : Bool) (f : Pair) → eqb q p ≡ true
-      → halfPair D p q b f ≡ pair (cofactor D (suc p) b (cofactor D p false (f .low))) (cofactor D (suc p) b (cofactor D p true (f .high)))
+      → halfPair node p q b f
+      ≡ pair (cofactor node (suc p) b (cofactor node p false (f .low))) (cofactor node (suc p) b (cofactor node p true (f .high)))
   half-cross q b f e = rw e
 
   pub half-plain : (q : ℕ) (b : Bool) (f : Pair) → eqb q p ≡ false
-      → halfPair D p q b f ≡ both (cofactor D q b (cond b (f .high) (f .low)))
+      → halfPair node p q b f ≡ both (cofactor node q b (cond b (f .high) (f .low)))
   half-plain q b f e = rw e
 
-  pub half-opposite : (q : ℕ) (b : Bool) (f : Pair) → halfPair D p q b (oppositePair true f) ≡ oppositePair true (halfPair D p q b f)
+module _ (D : Diagram) (p : ℕ) where
+  abbrev pub pairTree : (d : ℕ) → ℕ → Pair → Tree Bool d
+  pairTree zero q f = leaf (eqb (f .low) 1)
+  pairTree (suc d) q f =
+      node (pairTree d (suc q) (halfPair (nodeAt true D) p q false f)) (pairTree d (suc q) (halfPair (nodeAt true D) p q true f))
+
+  pub half-tree : (d q : ℕ) (b : Bool) (f : Pair) → half b (pairTree (suc d) q f) ≡ pairTree d (suc q) (halfPair (nodeAt true D) p q b f)
+  half-tree d q true f = refl
+  half-tree d q false f = refl
+
+  pub half-opposite : (q : ℕ) (b : Bool) (f : Pair)
+      → halfPair (nodeAt true D) p q b (oppositePair true f) ≡ oppositePair true (halfPair (nodeAt true D) p q b f)
   half-opposite q b f =
       split (eqb q p)
-      (λ e. half-cross q b (oppositePair true f) e ∙ ap₂ pair (twice false (f .low)) (twice true (f .high))
-      ∙ ap (oppositePair true) (sym (half-cross q b f e)))
-      (λ e. half-plain q b (oppositePair true f) e ∙ ap both (side b) ∙ ap (oppositePair true) (sym (half-plain q b f e)))
+      (λ e. half-cross (nodeAt true D) p q b (oppositePair true f) e ∙ ap₂ pair (twice false (f .low)) (twice true (f .high))
+      ∙ ap (oppositePair true) (sym (half-cross (nodeAt true D) p q b f e)))
+      (λ e. half-plain (nodeAt true D) p q b (oppositePair true f) e ∙ ap both (side b)
+      ∙ ap (oppositePair true) (sym (half-plain (nodeAt true D) p q b f e)))
     where
       twice : (c : Bool) (r : ℕ)
-          → cofactor D (suc p) b (cofactor D p c (opposite true r)) ≡ opposite true (cofactor D (suc p) b (cofactor D p c r))
-      twice c r = ap (cofactor D (suc p) b) (cofactor-opposite D p c r) ∙ cofactor-opposite D (suc p) b (cofactor D p c r)
+          → cofactor (nodeAt true D) (suc p) b (cofactor (nodeAt true D) p c (opposite true r))
+          ≡ opposite true (cofactor (nodeAt true D) (suc p) b (cofactor (nodeAt true D) p c r))
+      twice c r =
+          ap (cofactor (nodeAt true D) (suc p) b) (cofactor-opposite D p c r)
+          ∙ cofactor-opposite D (suc p) b (cofactor (nodeAt true D) p c r)
 
-      side : (c : Bool) → cofactor D q b (cond c (opposite true (f .high)) (opposite true (f .low)))
-          ≡ opposite true (cofactor D q b (cond c (f .high) (f .low)))
+      side : (c : Bool) → cofactor (nodeAt true D) q b (cond c (opposite true (f .high)) (opposite true (f .low)))
+          ≡ opposite true (cofactor (nodeAt true D) q b (cond c (f .high) (f .low)))
       side true = cofactor-opposite D q b (f .high)
       side false = cofactor-opposite D q b (f .low)
 
   -- a constant is its own half
-  half-constant : (q : ℕ) (b : Bool) (r : ℕ) → ltb r 2 ≡ true → halfPair D p q b (both r) ≡ both r
+  half-constant : (q : ℕ) (b : Bool) (r : ℕ) → ltb r 2 ≡ true → halfPair (nodeAt true D) p q b (both r) ≡ both r
   half-constant q b r c =
       split (eqb q p)
-      (λ e. half-cross q b (both r) e ∙ ap₂ pair (twice false) (twice true))
-      (λ e. half-plain q b (both r) e ∙ ap both (ap (cofactor D q b) (cond-same b r) ∙ cofactor-constant D q b r c))
+      (λ e. half-cross (nodeAt true D) p q b (both r) e ∙ ap₂ pair (twice false) (twice true))
+      (λ e. half-plain (nodeAt true D) p q b (both r) e
+      ∙ ap both (ap (cofactor (nodeAt true D) q b) (cond-same b r) ∙ cofactor-constant D q b r c))
     where
-      twice : (x : Bool) → cofactor D (suc p) b (cofactor D p x r) ≡ r
-      twice x = ap (cofactor D (suc p) b) (cofactor-constant D p x r c) ∙ cofactor-constant D (suc p) b r c
+      twice : (x : Bool) → cofactor (nodeAt true D) (suc p) b (cofactor (nodeAt true D) p x r) ≡ r
+      twice x = ap (cofactor (nodeAt true D) (suc p) b) (cofactor-constant D p x r c) ∙ cofactor-constant D (suc p) b r c
 
   pub constant-tree : (d q r : ℕ) → ltb r 2 ≡ true → pairTree d q (both r) ≡ full (eqb r 1) d
   constant-tree zero q r c = refl
   constant-tree (suc d) q r c =
-      let below : (b : Bool) → pairTree d (suc q) (halfPair D p q b (both r)) ≡ full (eqb r 1) d =
+      let below : (b : Bool) → pairTree d (suc q) (halfPair (nodeAt true D) p q b (both r)) ≡ full (eqb r 1) d =
       λ b. ap (pairTree d (suc q)) (half-constant q b r c) ∙ constant-tree d (suc q) r c in
       ap₂ node (below false) (below true)
 

@@ -11,7 +11,7 @@ use lib.Dec.{T, eqb, ltb}
 use lib.ListN.{getD}
 use Rattle.diagram.specs.Lists.{flip, has, index, upTo}
 use Rattle.diagram.specs.Fill.{Link, const, entry}
-use Rattle.diagram.specs.Diagram.{Diagram, edge, inverts, nodeAt}
+use Rattle.diagram.specs.Diagram.{Node, edge, inverts}
 use Rattle.diagram.specs.Order.{isOrder}
 use Rattle.diagram.specs.inner.Trace.{opposite}
 
@@ -70,11 +70,12 @@ abbrev pub linksFrom : List Pair → List Pair → List Link
 linksFrom gs [] = []
 linksFrom gs (f ∷ fs) = linkInto (entriesAfter gs f) f ∷ linksFrom (entriesAfter gs f) fs
 
-module _ (D : Diagram) where
+-- `node` is the node that a reference is to
+module _ (node : ℕ → Node) where
   -- the cofactor of a reference by the variable at level q: of one to a node there its edge, inverted where the reference inverts
   abbrev pub cofactor : ℕ → Bool → ℕ → ℕ
   cofactor q b r =
-      cond (not (ltb r 2) && eqb (nodeAt true D r .level) q) (opposite (inverts true r) (edge b (nodeAt true D r))) r
+      cond (not (ltb r 2) && eqb (node r .level) q) (opposite (inverts true r) (edge b (node r))) r
 
   module _ (p : ℕ) where
     -- half b of an entry of level q. At level p it fixes the variable of the old level p + 1, and its pair are the cofactors of both by
