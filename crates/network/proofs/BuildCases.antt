@@ -46,7 +46,7 @@ abbrev outcome : Answer → State → Outcome
 outcome x s = record { answer = x; state = s }
 
 -- a test that fails does not hold
-never : {X : Type 0} {b : Bool} → b ≡ false → b ≡ true → X
+pub never : {X : Type 0} {b : Bool} → b ≡ false → b ≡ true → X
 never f t = absurd-T {b = true} tt (sym t ∙ f)
 
 module _ (s : State) (values care work roots cells : List ℕ) where

@@ -15,3 +15,4 @@ pub mod TraceSized
 pub mod Words
 pub mod WorkLinks
 pub mod BuiltRows
+pub mod Swapping

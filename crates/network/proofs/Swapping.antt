@@ -1,0 +1,11 @@
+pub mod AllLinks
+pub mod Cases
+pub mod Checks
+pub mod HeldLinks
+pub mod Kept
+pub mod LevelLinks
+pub mod PairNumbers
+pub mod PlacedPairs
+pub mod PutLinks
+pub mod RootLinks
+pub mod SeenPairs

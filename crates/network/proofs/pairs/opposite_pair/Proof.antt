@@ -1,0 +1,22 @@
+-- `network::pairs::opposite_pair` meets its contract: both references are turned.
+-- Assumes nothing.
+use mathlib.Core.Path.{ap₂, _∙_}
+use Rattle.diagram.specs.inner.Exchange.{pair}
+use borrow.Author.Needs.{needs}
+use Rattle.network.proofs.pairs.opposite_pair.Statement.{statement}
+use Rattle.network.proofs.pairs.opposite_pair.Tie as tie
+
+turned-requires : tie.Need-turned-requires
+turned-requires c κs = search needs
+
+turned-requires-2 : tie.Need-turned-requires-2
+turned-requires-2 c κs = search needs
+
+joined-requires : tie.Need-joined-requires
+joined-requires c κs = search needs
+
+returns : tie.Need-returns
+returns c = (c .joined .ensures .0 ∙ ap₂ pair (c .before .before .turned .ensures .0) (c .before .turned2 .ensures .0), c .joined .ensures .1)
+
+pub opposite-pair-spec : {M : Type 1} → statement M
+opposite-pair-spec = tie.close (tie.spec turned-requires turned-requires-2 joined-requires returns)
