@@ -1,4 +1,5 @@
 pub mod AllLinks
+pub mod AsBuilt
 pub mod Cases
 pub mod Checks
 pub mod HeldLinks
@@ -9,3 +10,4 @@ pub mod PlacedPairs
 pub mod PutLinks
 pub mod RootLinks
 pub mod SeenPairs
+pub mod Twice

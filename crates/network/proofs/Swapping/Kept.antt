@@ -57,17 +57,17 @@ module _ (s : State) (p : ℕ) (work roots cells : List ℕ) where
     unfolding swapCellsAnswer
     board-answer = P .next (unless (leb count (capacity cells)) (TooSmall count) (Done 0))
 
-    has-room : done answered ≡ true → count ≤ capacity cells
+    pub has-room : done answered ≡ true → count ≤ capacity cells
     has-room e =
         let d : done (unless (leb count (capacity cells)) (TooSmall count) (Done 0)) ≡ true = sym (ap done board-answer) ∙ e in
         split (leb count (capacity cells)) (λ q. leb→le count (capacity cells) (to-T q)) (λ q. absurd-T {b = true} tt (sym (rw q at d)))
 
-    count-nodes : count ≡ length (swappedNetwork s p roots cells .nodes)
+    pub count-nodes : count ≡ length (swappedNetwork s p roots cells .nodes)
     unfolding swappedCount swappedNetwork
     count-nodes = cost-nodes t other
 
     -- the cells and roots afterwards, as a diagram
-    left-network : (rest : List ℕ)
+    pub left-network : (rest : List ℕ)
         → lentDiagram count (s .m) (numbersOf (swappedNetwork s p roots cells .nodes) ++ rest)
         (over (λ j. getD (swappedNetwork s p roots cells .roots) j 0) rootsSize roots)
         ≡ swappedNetwork s p roots cells
