@@ -3,7 +3,7 @@
 A chunk is made from the seed and its number alone, so that one can be run
 again by itself. The first chunks are the fixed ones, the others are random
 scenes: single calls, chains of calls on the same state and buffers, files,
-boards, diagrams, halves that agree, logs and larger tables.
+boards, diagrams, halves that agree, logs, swaps in the cells and larger tables.
 
 A chunk is a generator. What a call is lent is changed by that call before the
 next one is made, so that a chain meets the leftovers of its own calls.
@@ -24,6 +24,7 @@ import logs
 import networks
 import reference
 import refusals
+import swaps
 from library import Call
 
 CALLS_IN_CHUNK = 100
@@ -56,6 +57,8 @@ def single(rng):
         lend_counted(rng, call.lent)
     if name == "read_cells":
         call.lent.lengths["cells"] = lending.board_near(rng, refusals.cells_wanted(call))
+    if name == "swap_cells" and rng.random() < 0.6:
+        swaps.lend_board(rng, call)
     due = rng.choices(range(4), (70, 15, 10, 5))[0]
     kinds = refusals.kinds_of(name)
     refusals.spoil_all(rng, call, rng.sample(kinds, min(due, len(kinds))))
@@ -193,6 +196,7 @@ def diagram_calls(rng):
         yield Call("evaluate_rows", {}, lent, "any diagram")
     lending.lend_file_space(rng, lent)
     yield Call("write_cells", {}, lent, "any diagram")
+    yield Call("swap_cells", lending.numbers_near(rng, "swap_cells", n), lent, "any diagram")
     for _ in range(4):
         lending.lend_diagram(lent, cells, roots)
         rng.choice((refusals.break_lent_diagram, refusals.lend_too_few_cells))(rng, lent)
@@ -201,6 +205,8 @@ def diagram_calls(rng):
         yield Call("evaluate_rows", {}, lent, "a diagram with a breach")
         lending.lend_file_space(rng, lent)
         yield Call("write_cells", {}, lent, "a diagram with a breach")
+        numbers = lending.numbers_near(rng, "swap_cells", n)
+        yield Call("swap_cells", numbers, lent, "a diagram with a breach")
 
 
 def agreeing_halves(rng):
@@ -245,6 +251,72 @@ def same_logs(rng):
         yield Call("count", {}, copied, "after the same logs")
 
 
+# Swaps in the cells.
+
+
+def swap_near(rng, lent, n, note):
+    """A swap in the cells: any buffer may be longer, the board small, the work dirty."""
+    lending.lengthen(rng, lent)
+    lent.lengths["cells"] = lending.SMALL_BOARD
+    call = refusals.near_call(rng, "swap_cells", lent, n, note)
+    if rng.random() < 0.3:
+        swaps.lend_board(rng, call)
+    if rng.random() < 0.5:
+        lent.contents["work"] = lending.dirty(rng, "work", len(lent.contents["work"]))
+    return call
+
+
+def swaps_in_turn(rng):
+    """A network, mostly of a table with free rows, swapped again and again without a
+    build between; then what goes by its cells, and what goes by the table."""
+    n, m = small_size(rng)
+    lent = lending.lent_for(rng, n, m)
+    yield Call("build", {}, lent, "to be swapped")
+    for _ in range(rng.randint(2, 6)):
+        yield swap_near(rng, lent, n, "swaps in turn")
+    lending.lengthen(rng, lent)
+    lent.lengths["cells"] = lending.SMALL_BOARD
+    lending.lend_rows(rng, lent, range(2**n))
+    yield Call("evaluate_rows", {}, lent, "after swaps in turn")
+    lending.lend_file_space(rng, lent)
+    yield Call("write_cells", {}, lent, "after swaps in turn")
+    for name in ("count", "build"):
+        yield Call(name, {}, lent, "after swaps in turn")
+
+
+def near_swaps(rng):
+    """A network that is nearly section 4's, a board that is too small, or both."""
+    due = rng.choice(((refusals.NEAR,), (refusals.BOARD,), (refusals.NEAR, refusals.BOARD)))
+    call = refusals.sound_call(rng, "swap_cells", *small_size(rng))
+    refusals.spoil_all(rng, call, due)
+    yield call._replace(note="a swap with " + " and ".join(due))
+
+
+def swapped_back(rng):
+    """Two swaps at one place, one place after the other, now and then on a small board."""
+    n, m = small_size(rng)
+    lent = lending.lent_for(rng, n, m)
+    yield Call("build", {}, lent, "to be swapped and back")
+    for place in rng.sample(range(n), max(n - 1, 0)):
+        law = swaps.back_again(lent)
+        yield swap_near(rng, lent, n, "there")._replace(numbers={"place": place})
+        yield Call("swap_cells", {"place": place}, lent, "and back", law)
+
+
+def swapped_and_built(rng):
+    """A fully cared table, swapped in the cells, and swapped and built."""
+    n, m = small_size(rng)
+    lent = lending.lent_for(rng, n, m)
+    swaps.care_for_all(lent)
+    yield Call("build", {}, lent, "fully cared")
+    for place in range(n - 1):
+        copied = lent.copy(lent.contents)
+        yield Call("swap_cells", {"place": place}, lent, "fully cared")
+        yield Call("swap", {"place": place}, copied, "beside a swap in the cells")
+        law = swaps.as_swapped(lent, copied)
+        yield Call("build", {}, copied, "beside a swap in the cells", law)
+
+
 # Chains.
 
 
@@ -260,7 +332,8 @@ def next_name(rng, lent):
     if holds(lent) == reference.NETWORK and rng.random() < 0.5:
         return rng.choice(lending.HOLDERS)
     names = ["load", "cared", "count", "build", "build", "evaluate", "evaluate_rows", "swap"]
-    return rng.choice(names + ["swap", "sift", "pass", "write_cells", "read_cells", "log_rows"])
+    names += ["swap", "sift", "pass", "write_cells", "read_cells", "log_rows", "swap_cells"]
+    return rng.choice(names)
 
 
 def meddle(rng, lent):
@@ -326,6 +399,7 @@ def large(rng):
     names = ["load", "cared", "build"] + ["evaluate"] * 5 + ["evaluate_rows", "build", "swap"]
     names += ["count", "build"] + ["evaluate"] * 3 + ["evaluate_rows"]
     names += ["build", "write_cells", "read_cells", "evaluate_rows", "write_cells", "build"]
+    names += ["swap_cells", "swap_cells", "evaluate_rows", "count", "build", "swap_cells"]
     names += ["log_rows", "cared", "build", "evaluate", "log_rows", "count"]
     if n * m * 2**n <= MOST_BITS_TRIED:
         names += ["sift", "build", "evaluate"]
@@ -344,7 +418,8 @@ def large(rng):
 
 SCENES = {
     single: 70, loads: 8, boards: 4, diagram_calls: 9, reads: 8, written_and_read: 8, chain: 14,
-    agreeing_halves: 6, logs_in_turn: 6, same_logs: 3, large: 2,
+    agreeing_halves: 6, logs_in_turn: 6, same_logs: 3, swaps_in_turn: 6, near_swaps: 8,
+    swapped_back: 4, swapped_and_built: 3, large: 2,
 }
 
 

@@ -6,7 +6,8 @@ Each call is made once on the library and once on the reference, on copies of
 the same state words and buffers. The answer, every word of the state and every
 element of each buffer must be the same, also past what is lent. A difference
 is shown with its seed and chunk, and the exit status is 1; a chunk ends at its
-first difference. So it is too if a number that a call can give never came up.
+first difference. So it is too if a number that a call can give never came up, or an
+effect that it can have. Some calls have a law besides, which is asked after them.
 `--only CHUNK` runs one chunk again; `--first` ends at the first difference;
 `--skip-fixed` leaves out the chunks of fixed calls.
 """
@@ -21,6 +22,7 @@ from concurrent.futures import ProcessPoolExecutor
 from concurrent.futures.process import BrokenProcessPool
 
 import calls
+import cell_swap
 import library
 import network_files
 import reference
@@ -39,13 +41,22 @@ POSSIBLE = {
     "evaluate_rows": (0, 8, 10, 22, 24, 31), "swap": (0, 9, 10, 21), "sift": (0, 9, 10, 21),
     "pass": (0, 10, 21), "write_cells": (0, 10, 22, 24, 32),
     "read_cells": (0, 1, 2, 3, 4, 5, 6, 7, 10, 23, 24, 32), "log_rows": (0, 8, 10, 21, 33),
+    "swap_cells": (0, 9, 10, 22, 23, 24, 32),
 }
+# What a success of a call does to the count, where all of it should come up.
+EFFECTS = {"swap_cells": ("more cells", "fewer cells", "as many cells")}
 
 # The calls that have a file of their own beside the reference.
-MODULES = {"write_cells": network_files, "read_cells": network_files, "log_rows": row_log}
+MODULES = {
+    "write_cells": network_files, "read_cells": network_files, "log_rows": row_log,
+    "swap_cells": cell_swap,
+}
 
-# `calls` were compared; `given` counts (call, number); `text` shows a difference.
+# `calls` were compared; `given` counts (call, number) and (call, effect); `text` shows a
+# difference.
 Result = namedtuple("Result", "chunk calls given text")
+# What a call is to give: the number, and the effect or None.
+Wanted = namedtuple("Wanted", "number effect")
 
 # For each chunk the call that is being made, 0 before and after: in shared
 # memory, so that it is known when a worker is no more.
@@ -87,17 +98,27 @@ def wanted_answer(call, lent):
         return "the reference broke off", repr(error)
 
 
+def effect_of(call, number, before, after):
+    """Whether a success leaves more cells than it found, or fewer."""
+    if number != 0 or call.name not in EFFECTS:
+        return None
+    more = after.contents["state"][library.COUNT] - before.contents["state"][library.COUNT]
+    return EFFECTS[call.name][0 if more > 0 else 1 if more < 0 else 2]
+
+
 def run_call(opened, call):
-    """The wanted answer, and the text of the difference or None."""
+    """What was wanted, and the text of the difference or None."""
     names = library.slices_of(call.name)
     before, wanted = call.lent.copy(names), call.lent.copy(names)
     wanted_pair = wanted_answer(call, wanted)
     came_pair = opened.call(call.name, call.numbers, call.lent)
     alike = all(wanted.contents[name] == call.lent.contents[name] for name in names)
-    if wanted_pair == came_pair and alike:
-        return wanted_pair, None
+    found = Wanted(wanted_pair[0], effect_of(call, wanted_pair[0], before, wanted))
+    broken = call.law() if wanted_pair == came_pair and alike else None
+    if wanted_pair == came_pair and alike and broken is None:
+        return found, None
     answers = wanted_pair, came_pair
-    return wanted_pair, show_calls.difference_text(call, before, wanted, answers)
+    return found, show_calls.difference_text(call, before, wanted, answers, broken)
 
 
 def run_chunk(job):
@@ -108,8 +129,10 @@ def run_chunk(job):
     done, given, text = 0, Counter(), None
     for done, call in enumerate(calls.chunk_calls(seed, chunk), 1):
         begun[chunk] = done
-        (number, _), text = run_call(opened, call)
-        given[call.name, number] += 1
+        wanted, text = run_call(opened, call)
+        given[call.name, wanted.number] += 1
+        if wanted.effect:
+            given[call.name, wanted.effect] += 1
         if text:
             text = f"difference: seed {seed}, chunk {chunk}, call {done}\n{text}"
             break
@@ -173,15 +196,19 @@ def print_table(given):
     for name in library.CALLS:
         counts = [str(given[name, number] or "") for number in numbers]
         print(f"{name:{width}}" + "".join(f"{count:>7}" for count in counts))
+    for name, effects in EFFECTS.items():
+        told = [f"{effect} {given[name, effect]}" for effect in effects]
+        print(f"{name} left " + ", ".join(told))
 
 
 def wrong_numbers(given):
     """What a call can give but never gave, and what it gave but cannot."""
     wrong = []
     for name in library.CALLS:
+        possible = POSSIBLE[name] + EFFECTS.get(name, ())
         came = {number for each, number in given if each == name}
-        wrong += [f"{name} never gave {number}" for number in POSSIBLE[name] if number not in came]
-        wrong += [f"{name} gave {number}" for number in came if number not in POSSIBLE[name]]
+        wrong += [f"{name} never gave {number}" for number in possible if number not in came]
+        wrong += [f"{name} gave {number}" for number in came if number not in possible]
     return wrong
 
 

@@ -15,6 +15,7 @@ import fixed_fills
 import fixed_logs
 import fixed_reads
 import fixed_rows
+import fixed_swaps
 import fixed_writes
 import lending
 import library
@@ -185,5 +186,6 @@ CHUNKS = [
     ties, sizes, fixed_diagrams.all_calls, fixed_rows.all_calls,
 ]
 CHUNKS += fixed_writes.CHUNKS + fixed_reads.CHUNKS + fixed_logs.CHUNKS + fixed_fills.CHUNKS
+CHUNKS += fixed_swaps.CHUNKS
 CHUNKS += [functools.partial(damages, base=base) for base in cases.DAMAGE_BASES]
 CHUNKS += [functools.partial(refused, name=name) for name in library.CALLS]

@@ -21,7 +21,7 @@ MOST_ORDERS = 2**32 - 1
 MOST_ROW = 65535
 # The calls that evaluate a network which the state holds, and all that take one.
 EVALUATIONS = ("evaluate", "evaluate_rows")
-HOLDERS = EVALUATIONS + ("write_cells",)
+HOLDERS = EVALUATIONS + ("write_cells", "swap_cells")
 
 # Section 2's sizes; cells, files and lists of rows have none of their own.
 SIZES = {

@@ -42,6 +42,7 @@ CALLS = {
     "write_cells": "state roots cells work file",
     "read_cells": "state file values care work roots cells",
     "log_rows": "state rows least counts care",
+    "swap_cells": "state place work roots cells",
 }
 
 # The state's words. Those not named here are never read or changed.
@@ -86,8 +87,9 @@ def write_state(words, state):
 
 
 # A call to be made: `numbers` are by the argument's name, `lent` is a Lent, and
-# `note` tells a person where it is from.
-Call = namedtuple("Call", "name numbers lent note")
+# `note` tells a person where it is from. `law` is asked when the call is done and no
+# difference was found: it tells what else should hold and does not, or None.
+Call = namedtuple("Call", "name numbers lent note law", defaults=(lambda: None,))
 
 
 class Lent:

@@ -115,7 +115,8 @@ def computed_table(state, roots, cells):
 def is_network(state, roots, cells):
     """Whether cells and roots are section 4's network of what they compute."""
     table = computed_table(state, roots, cells)
-    wanted_cells, wanted_roots = reference.network(table, tuple(reference.used_order(state)))
+    order = tuple(reference.used_order(state))
+    wanted_cells, wanted_roots = reference.whole_network(table, order)
     counted = [tuple(cells[3 * i : 3 * i + 3]) for i in range(state.count)]
     return counted == wanted_cells and list(roots[: state.m]) == wanted_roots
 

@@ -218,6 +218,26 @@ def root_inside(network):
     return [with_root(network, 0, 2 * number) for number in range(2, len(network.cells) + 1)]
 
 
+def by_walk(network, outputs, positions):
+    """The cells' numbers by place, then as they are first met from these outputs on,
+    each cell's arrows in the sequence of these positions."""
+    met, waiting = {}, [network.roots[output] // 2 for output in reversed(outputs)]
+    while waiting:
+        number = waiting.pop()
+        if number and number not in met:
+            met[number] = network.cells[number - 1]
+            waiting += [met[number][position] // 2 for position in reversed(positions)]
+    return sorted(met, key=lambda number: met[number][0])
+
+
+def numbered_otherwise(network):
+    """The last output's cells first; or those behind the 1-arrows first."""
+    outputs = range(network.m)
+    walks = (outputs[::-1], (1, 2)), (outputs, (2, 1))
+    sequences = [by_walk(network, *walk) for walk in walks]
+    return [resequenced(network, each) for each in sequences if each != sorted(each)]
+
+
 def zero_cell_more(network):
     if network.n == 0:
         return []
@@ -234,6 +254,7 @@ NEAR = {
     "an odd 0-arrow": odd_zero_arrow,
     "two roots crossed": crossed_roots,
     "the root to a cell inside": root_inside,
+    "numbered by another sequence": numbered_otherwise,
     "a cell of zeros more": zero_cell_more,
 }
 

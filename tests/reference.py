@@ -8,7 +8,8 @@ or shared between steps.
 
 Every call answers (number, value). Buffers are mutable sequences of numbers:
 values, care and work hold bytes; roots, cells, rows and answers hold 16-bit
-numbers. Document 02's 2.2 is in network_files.py, its 2.4 in row_log.py.
+numbers. Document 02's 2.2 is in network_files.py, its 2.4 in row_log.py, its 2.7
+in cell_swap.py.
 """
 
 from collections import namedtuple
@@ -321,21 +322,32 @@ def reference_to(function, numbers):
     return 2 * numbers[class_member(function)] + function[0]
 
 
-@lru_cache(maxsize=128)
-def network(table, order):
-    """Section 4's cells and roots for the table filled under the order.
-
-    Remembered, since one desk asks for the same order again and again.
-    """
-    outputs = filled(table, order)
-    numbers = numbered_cells(outputs, table.n)
+def network_of(outputs, n):
+    """Section 4's cells and roots of filled outputs, rows by the order's places."""
+    numbers = numbered_cells(outputs, n)
     cells = []
     for function in numbers:
         zero_half, one_half = halves(function)
-        place = table.n + 1 - len(function).bit_length()
+        place = n + 1 - len(function).bit_length()
         arrows = reference_to(zero_half, numbers), reference_to(one_half, numbers)
         cells.append((place,) + arrows)
     return cells, [reference_to(output, numbers) for output in outputs]
+
+
+@lru_cache(maxsize=128)
+def network(table, order):
+    """The network of the table filled under the order.
+
+    Remembered, since one desk asks for the same order again and again.
+    """
+    return network_of(filled(table, order), table.n)
+
+
+@lru_cache(maxsize=128)
+def whole_network(table, order):
+    """The same of a table that is filled already, every row cared: it 'fills to itself'."""
+    outputs = [[value for value, _ in output] for output in reordered(table, order)]
+    return network_of(outputs, table.n)
 
 
 def cost(table, order):

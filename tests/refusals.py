@@ -17,16 +17,17 @@ import library
 import logs
 import network_files
 import networks
+import swaps
 from library import Call
 
 # Not arguments: the state's words break a rule, or hold no table or network; a
 # file's cells break a rule of number 24; cells that are not section 4's network; the
-# records are too many.
-WORDS, BREACH, NEAR, RECORDS = "words", "breach", "near", "records"
+# records are too many; the board is too small for what a swap in the cells leaves.
+WORDS, BREACH, NEAR, RECORDS, BOARD = "words", "breach", "near", "records", "board"
 # Numbers that are never refused.
 ANY_NUMBER = ("limit", "least")
 # What is spoilt first: the cells' content before its length, and that before the file.
-FIRST = (NEAR, BREACH, "cells")
+FIRST = (NEAR, BOARD, BREACH, "cells")
 # How many refusals are due at once, at most.
 AT_ONCE = 3
 
@@ -34,7 +35,10 @@ AT_ONCE = 3
 def kinds_of(name):
     """What can be spoilt in a call; load takes any state, and that too is tried."""
     arguments = [each for each in library.arguments_of(name) if each not in ANY_NUMBER]
-    more = {"write_cells": [NEAR], "read_cells": [NEAR, BREACH], "log_rows": [RECORDS]}
+    more = {
+        "write_cells": [NEAR], "read_cells": [NEAR, BREACH], "log_rows": [RECORDS],
+        "swap_cells": [NEAR, BOARD],
+    }
     return arguments + [WORDS] + more.get(name, [])
 
 
@@ -143,7 +147,10 @@ def spoil_file(rng, call):
         lending.lend_file(rng, lent, damaged_file(rng, bytes(lent.part("file"))))
 
 
-SPOIL_CALL = {WORDS: spoil_words, NEAR: spoil_network, "cells": spoil_cells, "file": spoil_file}
+SPOIL_CALL = {
+    WORDS: spoil_words, NEAR: spoil_network, "cells": spoil_cells, "file": spoil_file,
+    BOARD: swaps.spoil_board,
+}
 SPOIL_LENT = {
     BREACH: break_filed_diagram, "rows": spoil_rows, "answers": spoil_answers,
     "counts": logs.spoil_counts, RECORDS: logs.spoil_records,
@@ -193,6 +200,8 @@ def sound_call(rng, name, n, m):
     if name == "write_cells":
         lending.lend_diagram(lent, *lending.network_of(lent))
         lending.lend_file_space(rng, lent)
+    if name == "swap_cells":
+        swaps.lend_network(rng, lent)
     if name == "read_cells":
         network = networks.of_table(cases.random_table(rng, n, m))
         lending.lend_file(rng, lent, cell_files.network_file(network))

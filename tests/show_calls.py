@@ -62,8 +62,8 @@ def first_difference(name, wanted, came):
     return f"  {name}: {len(differing)} differ, first element {at}: {values}"
 
 
-def difference_text(call, before, wanted, answers):
-    """The call, and what was expected and what came of it."""
+def difference_text(call, before, wanted, answers, broken=None):
+    """The call, what was expected and what came of it, and of a law what does not hold."""
     (wanted_number, wanted_value), (number, value) = answers
     lines = [call_text(call, before)]
     lines.append(f"  answer: expected {wanted_number} {wanted_value}, came {number} {value}")
@@ -71,4 +71,6 @@ def difference_text(call, before, wanted, answers):
         line = first_difference(name, wanted.contents[name], call.lent.contents[name])
         if line:
             lines.append(line)
+    if broken:
+        lines.append(f"  law: {broken}")
     return "\n".join(lines)

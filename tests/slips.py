@@ -2,9 +2,9 @@
 
     python3 tests/slips.py --library PATH [--seed S] [--skip-fixed] [--named TEXT]
 
-Each slip is made in a copy of reference.py, network_files.py or row_log.py, in a
-folder of its own with the other files, and the comparison there must find a
-difference. A line says after how many calls, counted in the sequence of the chunks.
+Each slip is made in a copy of reference.py, network_files.py, row_log.py or
+cell_swap.py, in a folder of its own with the other files, and the comparison there
+must find a difference. A line says after how many calls, counted in the sequence of the chunks.
 The exit status is 1 if one slip is not found. Run by hand: when the calls of the
 comparison change.
 `--skip-fixed` leaves the fixed calls out, to see what the random ones find;
@@ -24,16 +24,19 @@ import file_slips
 import fill_slips
 import log_slips
 import slip_list
+import swap_slips
 
 # Each with the file that it is made in.
 SLIPS = [("reference.py", *slip) for slip in slip_list.SLIPS + fill_slips.SLIPS]
 SLIPS += [("network_files.py", *slip) for slip in file_slips.SLIPS]
 SLIPS += [("row_log.py", *slip) for slip in log_slips.SLIPS]
+SLIPS += [("cell_swap.py", *slip) for slip in swap_slips.SLIPS]
 
 HERE = Path(__file__).resolve().parent
 LAST_LINE = re.compile(r"compared (\d+) calls, (\d+) differences")
 # The line of a difference that tells where it is.
 PLACE = re.compile(r"^  (\w+): \d+ differ,", re.MULTILINE)
+LAW = re.compile(r"^  (law): ", re.MULTILINE)
 ANSWER = re.compile(r"^  answer: expected (.*), came (.*)$", re.MULTILINE)
 
 
@@ -52,10 +55,10 @@ def make_copy(folder, name, old, new):
 
 
 def places_in(shown):
-    """What differed in the first difference: the answer, or which buffers."""
+    """What differed in the first difference: the answer, which buffers, or a law alone."""
     wanted, came = ANSWER.search(shown).groups()
     places = [f"answer {wanted} for {came}"] if wanted != came else []
-    return ", ".join(places + PLACE.findall(shown))
+    return ", ".join(places + PLACE.findall(shown) + LAW.findall(shown))
 
 
 def run_slip(slip, given):
