@@ -11,6 +11,7 @@ use diagram::NODES;
 use fill::count;
 use lent::evaluate::evaluate;
 use network::build::build;
+use network::swap::swap_cells;
 use sift::passes::pass;
 use sift::single::sift;
 use table::Outcome;
@@ -22,8 +23,8 @@ use text::word::decimal_in;
 // The largest number of a word.
 const LARGEST: u32 = 4294967295;
 
-// What is at the desk: the state, the board for the builds that follow, the least for the logs that follow, the word that waits for its
-// number, and whether a word was wrong.
+// What is at the desk: the state, the board for the builds and swaps in the cells that follow, the least for the logs that follow, the
+// word that waits for its number, and whether a word was wrong.
 pub(crate) struct Desk {
     pub state: State,
     pub board: usize,
@@ -62,7 +63,7 @@ fn with_state(desk: Desk, state: State) -> Desk {
     next
 }
 
-// Sets the board for the builds that follow.
+// Sets the board for the builds and swaps in the cells that follow.
 fn with_board(desk: Desk, board: usize) -> Desk {
     let mut next = waits(desk, Command::None);
     next.board = board;
@@ -146,6 +147,14 @@ fn largest(command: Command) -> u32 {
     }
 }
 
+// Where the board's part of the cells ends.
+fn board_end(desk: Desk) -> usize {
+    if desk.board < NODES {
+        return 3 * desk.board;
+    }
+    3 * NODES
+}
+
 // Builds on the board's part of the cells.
 fn built(
     desk: Desk,
@@ -156,16 +165,32 @@ fn built(
     cells: &mut [u16],
 ) -> Desk {
     let state = desk.state;
-    let end = if desk.board < NODES {
-        3 * desk.board
-    } else {
-        3 * NODES
-    };
+    let end = board_end(desk);
     if end <= cells.len() {
         return said(
             desk,
             b"build",
             build(state, values, care, work, roots, &mut cells[..end]),
+        );
+    }
+    desk
+}
+
+// Swaps places p and p + 1 in the board's part of the cells.
+fn swapped_cells(
+    desk: Desk,
+    p: usize,
+    work: &mut [u8],
+    roots: &mut [u16],
+    cells: &mut [u16],
+) -> Desk {
+    let state = desk.state;
+    let end = board_end(desk);
+    if end <= cells.len() {
+        return said(
+            desk,
+            b"swapcells",
+            swap_cells(state, p, work, roots, &mut cells[..end]),
         );
     }
     desk
@@ -227,8 +252,8 @@ pub(crate) fn second(
     values: &[u8],
     care: &[u8],
     work: &mut [u8],
-    roots: &[u16],
-    cells: &[u16],
+    roots: &mut [u16],
+    cells: &mut [u16],
 ) -> Desk {
     let Decimal::Is(x) = decimal_in(word, largest(command)) else {
         return bad(desk, k);
@@ -237,6 +262,7 @@ pub(crate) fn second(
     let number = x as usize;
     match command {
         Command::Swap => said(desk, b"swap", swap(state, number)),
+        Command::SwapCells => swapped_cells(desk, number, work, roots, cells),
         Command::Sift => said(desk, b"sift", sift(state, number, values, care, work)),
         Command::Pass => said(desk, b"pass", pass(state, x, values, care, work)),
         Command::Eval => evaluated(desk, number, roots, cells),

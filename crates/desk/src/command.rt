@@ -8,6 +8,7 @@ pub enum Command {
     Build,
     Relog,
     Swap,
+    SwapCells,
     Sift,
     Pass,
     Eval,
@@ -48,6 +49,9 @@ pub(crate) fn of(word: &[u8]) -> Command {
 fn with_number(word: &[u8]) -> Command {
     if same(word, b"swap") {
         return Command::Swap;
+    }
+    if same(word, b"swapcells") {
+        return Command::SwapCells;
     }
     if same(word, b"sift") {
         return Command::Sift;

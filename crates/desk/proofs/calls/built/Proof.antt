@@ -7,11 +7,8 @@ use borrow.Author.Needs.{needs}
 use Rattle.desk.proofs.calls.built.Statement.{statement}
 use Rattle.desk.proofs.calls.built.Tie as tie
 
-mul-end : tie.Need-mul-end
-mul-end c = search needs
-
-mul-end-2 : tie.Need-mul-end-2
-mul-end-2 c = search needs
+board-end-requires : tie.Need-board-end-requires
+board-end-requires c κs = search needs
 
 slice-aggregate-said : tie.Need-slice-aggregate-said
 slice-aggregate-said c = search needs
@@ -22,7 +19,8 @@ slice-relend-prefix-build c = search needs
 slice-aggregate-build : tie.Need-slice-aggregate-build
 slice-aggregate-build c =
     let e = c .before .before .before .before .before in
-    sym (length-take-le (e .if1 .end) (e .before .before .before .before .before .before .before .before .args .cells .now) (omega arith))
+    let cells = e .before .before .before .before .before .before .before .args .cells .now in
+    sym (length-take-le (e .board-end .result) cells (omega arith))
 
 build-requires : tie.Need-build-requires
 build-requires c κs = search needs
@@ -49,8 +47,7 @@ pub built-spec : {M : Type 1} → statement M
 built-spec =
     tie.close
     (tie.spec
-    mul-end
-    mul-end-2
+    board-end-requires
     slice-aggregate-said
     slice-relend-prefix-build
     slice-aggregate-build
