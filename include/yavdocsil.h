@@ -108,6 +108,12 @@ uint64_t yav_log_rows(uint64_t *state, size_t state_words, const uint16_t *rows,
 /* Exchanges the inputs at `place` and the place below it. Numbers 10, 21, 9. */
 uint64_t yav_swap(uint64_t *state, size_t state_words, uint64_t place);
 
+/* The same in the cells and roots of the network held, without the table: every row gives what it gave, and no network under the new order
+ * that gives so has fewer cells. The state keeps its network and has the new count; cells past it stay, and the answer's value is 0. Where
+ * every row is cared, a build leaves the same cells; with free rows it may leave others. Numbers 10, 22, 9, 24, 32, 23. */
+uint64_t yav_swap_cells(uint64_t *state, size_t state_words, uint64_t place, uint8_t *work, size_t work_bytes,
+                        uint16_t *roots, size_t roots_elements, uint16_t *cells, size_t cells_elements);
+
 /* Moves one input to the place where the network takes the fewest cells, and answers those. It stays where it is if no other place
  * takes fewer; of several that do, the smallest is taken. Numbers 10, 21, 9. */
 uint64_t yav_sift(uint64_t *state, size_t state_words, uint64_t input, const uint8_t *values, size_t values_bytes,

@@ -9,7 +9,7 @@ use lib.Dec.{eqb, ltb, leb}
 use lib.ListN.{length, getD}
 use lib.Pow.{pow-mono}
 use Rattle.diagram.specs.Lists.{all}
-use Rattle.diagram.specs.Bound.{mostVariables, mostOutputs}
+use Rattle.diagram.specs.Bound.{mostVariables, mostOutputs, mostNodes}
 use Rattle.diagram.specs.Canonical.{canonical}
 use Rattle.diagram.specs.Diagram.{wellFormed}
 use Rattle.diagram.specs.Order.{isOrder}
@@ -32,7 +32,7 @@ use Rattle.table.specs.Stream.{caredBits}
 use Rattle.table.specs.File.{fileInputs, fileOutputs, fileOrder, goodKind, streamBits, streamBlocks, firstBit}
 use Rattle.table.specs.File.{shapeAnswer, fieldsAnswer, headingAnswer, tailAnswer, blockAnswer, streamsAnswer, fileAnswer}
 use Rattle.table.specs.Calls.{planeSize, loadAnswer, loadOutcome, swapAnswer, swapOutcome, caredAnswer}
-use Rattle.table.proofs.Held.{few-bits, few-outputs}
+use Rattle.table.proofs.Held.{few-bits, few-inputs, few-outputs}
 use Rattle.fill.specs.Work.{workSize}
 use Rattle.fill.specs.Calls.{heldTable, enough, countAnswer}
 use Rattle.lent.specs.Lent.{lentDiagram, rootsSize}
@@ -40,7 +40,9 @@ use Rattle.lent.specs.Evaluate.{goodCells, rowOutputs, evaluateAnswer}
 use Rattle.lent.specs.Rows.{rowsAnswer}
 use Rattle.lent.proofs.Answered.{network-held}
 use Rattle.network.specs.Build.{wanted, capacity, longEnough, buildAnswer, buildOutcome}
+use Rattle.network.specs.Swap.{cellTable, exchangedOrder, swappedCount, swapChecks, swapCellsAnswer, swapCellsOutcome}
 use Rattle.network.proofs.HeldRead.{few-nodes, few-wanted}
+use Rattle.network.proofs.TraceRead.{few-cost}
 use Rattle.canonical.specs.Canonical.{canonicalAnswer}
 use Rattle.cellfile.specs.File.{countAt, rootsAt, fileCount, fileDiagram, cellBlocks, carriedNumbers}
 use Rattle.cellfile.specs.File.{unusedHeading, networkHeading, cellsBlock, cellsAnswer, networkFileAnswer}
@@ -238,16 +240,40 @@ module _ (s : State) where
       (λ _. checked (isNetwork (stageOf s)) NoNetwork (unless inside NoRow last) refl
       (λ _. checked inside NoRow last refl (λ _. checked (goodCells s roots cells) BadCells (Done 0) refl (λ _. none)))))
 
+  -- of held cells: 24, 32, then what follows
+  abbrev tested : List ℕ → List ℕ → Answer → Answer
+  tested roots cells rest =
+      unless (goodCells s roots cells) BadCells
+      (unless (canonical true (s .n) (s .m) (orderOf s) (lentDiagram (s .count) (s .m) cells roots)) NotCanonical rest)
+
+  tested-small : (roots cells : List ℕ) (rest : Answer) → Small rest → Small (tested roots cells rest)
+  tested-small roots cells rest r =
+      let same = canonical true (s .n) (s .m) (orderOf s) (lentDiagram (s .count) (s .m) cells roots) in
+      checked (goodCells s roots cells) BadCells (unless same NotCanonical rest) refl (λ _. checked same NotCanonical rest refl (λ _. r))
+
   -- a held network's checks, and writing it: the one success is 0
   canonical-small : (roots cells : List ℕ) → Small (canonicalAnswer s roots cells)
   unfolding canonicalAnswer
   canonical-small roots cells =
-      let same = canonical true (s .n) (s .m) (orderOf s) (lentDiagram (s .count) (s .m) cells roots) in
-      let last = unless same NotCanonical (Done 0) in
-      let good = unless (goodCells s roots cells) BadCells last in
-      checked (leb rootsSize (length roots)) ShortBuffer (unless (isNetwork (stageOf s)) NoNetwork good) refl
-      (λ _. checked (isNetwork (stageOf s)) NoNetwork good refl
-      (λ _. checked (goodCells s roots cells) BadCells last refl (λ _. checked same NotCanonical (Done 0) refl (λ _. none))))
+      let last = tested roots cells (Done 0) in
+      checked (leb rootsSize (length roots)) ShortBuffer (unless (isNetwork (stageOf s)) NoNetwork last) refl
+      (λ _. checked (isNetwork (stageOf s)) NoNetwork last refl (λ _. tested-small roots cells (Done 0) none))
+
+  -- swapping in the cells: the one success is 0, and 23 answers the cells wanted
+  pub swap-cells-small : (p : ℕ) (work roots cells : List ℕ) → Small (swapCellsOutcome s p work roots cells .answer)
+  unfolding swapCellsOutcome swapCellsAnswer swapChecks swappedCount
+  swap-cells-small p work roots cells =
+      let w = cost (cellTable s roots cells) (exchangedOrder s p) in
+      let long = leb workSize (length work) && leb rootsSize (length roots) in
+      let last = unless (leb w (capacity cells)) (TooSmall w) (Done 0) in
+      let placed = unless (ltb (suc p) (s .n)) NoSuch (tested roots cells last) in
+      checked long ShortBuffer (unless (isNetwork (stageOf s)) NoNetwork placed) refl
+      (λ _. checked (isNetwork (stageOf s)) NoNetwork placed refl
+      (λ e. let h = network-held (stageOf s) (to-T e) in
+      let few : w ≤ mostNodes = few-cost (cellTable s roots cells) (exchangedOrder s p) (few-inputs s h) (few-outputs s h) in
+      checked (ltb (suc p) (s .n)) NoSuch (tested roots cells last) refl
+      (λ _. tested-small roots cells last
+      (split (leb w (capacity cells)) (λ f. rw f none) (λ f. rw f (omega (arith, few)))))))
 
   pub write-small : (roots cells work file : List ℕ) → Small (writeAnswer s roots cells work file)
   unfolding writeAnswer

@@ -7,3 +7,4 @@ pub mod load;
 pub mod log;
 pub mod order;
 mod state;
+pub mod swap;
