@@ -277,14 +277,36 @@ def board_words(rng, table, words):
     return ["board", str(board), "build", "state", "cells"]
 
 
+def boards_around(counts):
+    """Boards just below, at and just above each of some counts."""
+    near = {count + more for count in counts for more in (-1, 0, 1)}
+    return sorted(board for board in near if 0 <= board <= MOST_CELLS)
+
+
+def cell_swap_words(rng, table, words):
+    """A swap in the cells, mostly of a network just built, on the board as it is or on
+    one around the cells held and wanted."""
+    whole = ["board", str(MOST_CELLS)]
+    asked = ["swapcells", str(number_near(rng, max(table[4] - 1, 0)))]
+    first = rng.choice(([], whole + ["build"], whole + ["build"]))
+    if rng.random() < 0.5:
+        held = answer_after(table, words + first, "state")
+        wanted = answer_after(table, words + first + whole + asked, "state")
+        first = first + ["board", str(rng.choice(boards_around((held, wanted))))]
+    return first + asked + ["order", "state", "cells"]
+
+
 def random_step(rng, table, words, sifting):
     """The words of one step: a change or question, and what shows it."""
     n = table[4]
     kinds = ["board", "swap", "eval", "evals", "count", "build", "write", "log", "relog"]
+    kinds += ["swapcells", "swapcells"]
     kinds += ["sift", "sift", "pass", "pass"] if sifting else []
     kind = rng.choice(kinds)
     if kind == "board":
         return board_words(rng, table, words)
+    if kind == "swapcells":
+        return cell_swap_words(rng, table, words)
     if kind == "eval":
         return ["eval", str(row_near(rng, n)), "eval", str(row_near(rng, n))]
     if kind == "evals":
@@ -349,6 +371,7 @@ def large_cases(rng, density):
     words = board_words(rng, table, []) + ["swap", str(rng.randrange(n - 1))]
     words += board_words(rng, table, words) + ["board", "2159", "build"]
     words += ["eval", "1023", "eval", "1024", "eval", str(rng.randrange(1024)), "cells", "write"]
+    words += ["swapcells", str(rng.randrange(n - 1)), "order", "state", "cells"]
     words += ["rows"] if density < 0.3 else []
     words += ["sift", str(rng.randrange(n)), "order"] if density < 0.1 else []
     return with_others(Case("desk", words, table))

@@ -35,10 +35,15 @@ Decisions where the texts leave room:
 - `logged` prints `seen ROW COUNT` for every row below 2^n whose count is not 0, rows
   rising. It asks no call, so it prints the same at every stage.
 - Words are too few for a sum over 4,294,967,295, so 33 never comes up.
+- `swapcells P` is document 02's 2.7, on the board's part of the cells, as `build`: a
+  board below the held count gives 24, since fewer cells are lent than are counted,
+  and a result over the board 23 with the cells wanted.
+- The held cells were built, read or swapped, so with `swapcells` 32 never comes up.
 """
 
 import sys
 
+import cell_swap
 import network_files
 import reference
 import row_log
@@ -52,7 +57,7 @@ DESK_COUNTS = 1024
 
 PLAIN_WORDS = ("count", "build", "order", "state", "cells", "rows", "cared", "write")
 PLAIN_WORDS += ("relog", "logged")
-NUMBER_WORDS = ("swap", "sift", "pass", "eval", "evals", "board", "least", "log")
+NUMBER_WORDS = ("swap", "swapcells", "sift", "pass", "eval", "evals", "board", "least", "log")
 LIST_WORDS = ("evals", "log")
 
 
@@ -98,6 +103,13 @@ class Desk:
         self.cells[: 3 * self.board] = lent
         return answer
 
+    def swap_cells(self, place):
+        """Swaps in the board's part of the cells only."""
+        lent = self.cells[: 3 * self.board]
+        answer = cell_swap.swap_cells(self.state, place, self.work, self.roots, lent)
+        self.cells[: 3 * self.board] = lent
+        return answer
+
     def log(self, rows):
         return row_log.log_rows(self.state, rows, self.least, self.counts, self.care)
 
@@ -112,6 +124,8 @@ class Desk:
             return self.build()
         if word == "swap":
             return reference.swap(self.state, number)
+        if word == "swapcells":
+            return self.swap_cells(number)
         if word == "sift":
             return reference.sift(self.state, number, *table)
         if word == "pass":

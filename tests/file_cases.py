@@ -12,6 +12,7 @@ from cases import Case, desk, with_others
 from cell_files import Network, network_file
 
 LOOK = "state order cells cared rows count write build cells write"
+LOOK += " swapcells 0 order cells rows count write build cells write"
 
 ROWS = [
     ["1"], ["0", "1"], ["0 0 0 1"], ["1 1 1 0"], ["0 0 0 1", "1 1 1 0"], ["0 1 1 0"],
@@ -102,6 +103,9 @@ def word_cases():
         "sift 0 write build write", "pass 4 write build write", "board 0 write build write cells",
         "board 1 build write board 2 build write", "eval 3 evals 0,1,2 evals 4 write",
         "count state write", "build write swap 0 build write cells", "cared rows order write",
+        "swapcells 0 write state", "build swapcells 0 write swapcells 0 write build write",
+        "swapcells 0 rows cared count write build write cells", "swapcells 1 write",
+        "board 0 swapcells 0 write board 1 swapcells 0 write board 2 swapcells 0 write",
     ]
     table = files.table_from_rows(["0 1 1 0"])
     free = files.table_from_rows(["0 1 1 -", "- 1 - 0"], [1, 0])

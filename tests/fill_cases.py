@@ -21,9 +21,10 @@ def drawn_cases():
 
 
 def two_input_cases():
-    """Every table of one output, and swapped to the other order."""
+    """Every table of one output, swapped in the cells and back, and to the other order."""
     tables = [" ".join(rows) for rows in itertools.product("01-", repeat=4)]
-    command = "build cells rows swap 0 build cells rows"
+    command = "build cells rows swapcells 0 state cells rows count swapcells 0 cells"
+    command += " swap 0 build cells rows"
     return [desk(files.table_from_rows([rows]), command) for rows in tables]
 
 
@@ -38,7 +39,9 @@ def size_cases(rng, n):
     for m in outputs_at(n):
         sifting = f"sift {rng.randrange(n)} order pass {rng.choice((n, 2 * n))} order build cells"
         command = "cared count build cells"
-        command += f" swap {rng.randrange(n - 1)} build cells" if n > 1 else ""
+        if n > 1:
+            command += f" swapcells {rng.randrange(n - 1)} order cells count"
+            command += f" swap {rng.randrange(n - 1)} build cells"
         command += f" rows {sifting}" if n < 6 else ""
         case = desk(fill_tables.table(rng, n, m), command)
         made += with_others(case) if n < 8 else [case]

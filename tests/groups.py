@@ -11,6 +11,7 @@ import cases
 import file_cases
 import fill_cases
 import log_cases
+import swap_cases
 
 
 def groups(seed, random_count):
@@ -42,5 +43,5 @@ def groups(seed, random_count):
             )
     for i in range(random_count):
         seeded(f"random {i}", cases.random_cases)
-    made |= fill_cases.groups(seed) | log_cases.groups(seed)
+    made |= fill_cases.groups(seed) | log_cases.groups(seed) | swap_cases.groups(seed)
     return made | file_cases.groups(seed, random_count)

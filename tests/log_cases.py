@@ -37,6 +37,11 @@ def word_cases():
         "log 8 logged cared state", "log 1,8 logged log 1 logged", "build log 9 state cells rows",
         "least 4294967295 log 1 cared build cells", "least 4294967296 log 1", "least -1", "log 3,,5",
         "board 0 log 3 count build board 2159 build", "log 1 eval 1 build eval 1 evals 1,0 write",
+        "build log 3 swapcells 0 state order build swapcells 0 state cells logged",
+        "build swapcells 1 log 3 state order swapcells 1 count build cells swapcells 1 cells",
+        "build relog swapcells 0 state", "build logged swapcells 0 logged cared order cells",
+        "build log 8 swapcells 0 state cells", "swapcells 0 relog swapcells 0 order write",
+        "log 1,2 build swapcells 0 swapcells 1 rows count relog count swapcells 0 order",
         "Log 3", "Logged", "least 2 bad", "log 1 least 0 log 8 relog cared", "seen",
     ]
     return [desk(file, command) for file in begun() for command in commands]

@@ -84,6 +84,7 @@ class Programs(unittest.TestCase):
                 "count log 0,0,3,5,12,12 logged cared count least 2 relog cared count",
                 "examples/and-or.table",
             ),
+            ("build swapcells 1 order cells", TABLE),
         ):
             shown = shown_in_readme(f"target/bin/desk {words} < {path}")
             with self.subTest(words):

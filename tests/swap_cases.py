@@ -1,0 +1,229 @@
+"""The cases of the comparison on swaps in the cells, document 02's 2.7: the desk's word
+`swapcells`, on table files and on network files."""
+
+import random
+
+import cases
+import expected
+import files
+import networks
+from cases import Case, desk
+from cell_files import network_file
+
+LOOK = "state order cells rows"
+MOST_CELLS = cases.MOST_CELLS
+
+
+def two_ands(order):
+    """Section 9's table: four cells in the natural order, six with 1 and 2 exchanged."""
+    return files.table_file(4, 1, order, cases.bits_of(0xF888, 16), [1] * 16)
+
+
+def free_table():
+    """Sixteen rows, two outputs, an order of its own and free rows."""
+    outputs = ["0 - 1 0 1 - 0 - - 1 - 0 0 - 1 1", "- 1 1 0 - - 0 1 0 - 1 - 1 0 - -"]
+    return files.table_from_rows(outputs, [2, 0, 3, 1])
+
+
+def read_of(table):
+    """The network file of what is built of a table."""
+    return network_file(networks.of_table(table))
+
+
+def begun():
+    """Fully cared and with free rows, as tables and as network files."""
+    tables = (two_ands([0, 2, 1, 3]), free_table())
+    return tables + tuple(read_of(table) for table in tables)
+
+
+# Words and places.
+
+
+def word_cases():
+    """At every stage, in turn and back, and with the other words between."""
+    commands = [
+        "swapcells 0 state order", "swapcells 3", "swapcells 4294967295", "board 0 swapcells 0",
+        "count swapcells 0 state", "build cells swapcells 1 " + LOOK + " swapcells 1 " + LOOK,
+        "build swap 0 swapcells 0 state order", "build swapcells 0 swap 0 state order build cells",
+        "build sift 1 swapcells 0 state order", "build swapcells 1 sift 1 order build cells",
+        "build pass 9 swapcells 0 state", "build swapcells 2 pass 16 order state build cells",
+        "build swapcells 0 write swapcells 1 write swapcells 2 write count build write",
+        "build swapcells 0 swapcells 1 swapcells 2 " + LOOK + " count cared build cells",
+        "build swapcells 2 swapcells 1 swapcells 0 swapcells 0 swapcells 1 swapcells 2 " + LOOK,
+        "build swapcells 0 swapcells 2 order cells swapcells 2 swapcells 0 order cells",
+        "build swapcells 1 eval 5 evals 3,15,16 evals 3,15 eval 16 rows cared",
+        "build swapcells 1 count state count swapcells 1 state build state",
+        "build swapcells 1 build cells swapcells 1 cells build cells",
+        "build swapcells 1 log 3,5 state swapcells 1 count build swapcells 1 cells logged cared",
+        "build log 1 swapcells 0 relog swapcells 0 build swapcells 0 write",
+        "Swapcells 0", "swap-cells 0", "swapcell 0", "cellswap 0", "build swapcells 0 0",
+        "build swapcells swapcells 0", "build swapcells 1 bad", "build swapcells 0,1 state",
+    ]
+    return [desk(file, command) for file in begun() for command in commands]
+
+
+def place_cases():
+    """Every n: each place, the last one and past it, on a board and on none."""
+    made = []
+    for n in range(11):
+        bits = [row * (row + 3) // 4 % 3 % 2 for row in range(2**n)]
+        table = files.table_file(n, 1, range(n), bits, [1] * len(bits))
+        beyond = (n - 1, n, n + 1, 255, 256, 65536, cases.LARGEST)
+        places = [*range(n - 1), *(place for place in beyond if place >= 0)]
+        words = [word for place in places for word in ("swapcells", str(place), "state", "order")]
+        made.append(Case("desk", ["build"] + words + ["cells"], table))
+        made.append(Case("desk", ["build", "board", "0"] + words + ["cells"], table))
+        made.append(Case("desk", words, table))
+        made.append(Case("desk", words + ["cells"], read_of(table)))
+    return made
+
+
+# Boards.
+
+
+def board_tables():
+    """Tables whose networks swaps make larger, make smaller, or leave as they are."""
+    orders = ([0, 1, 2, 3], [0, 2, 1, 3], [2, 0, 3, 1])
+    rows = [
+        ["0 1 1 0"], ["0 0 0 1", "1 1 1 0"], ["0 1 0 1"], ["0 0 0 0", "1 1 1 1"], ["0 0 1 -"],
+        ["0 0 1 1 0 1 0 1"], ["0 1 1 0 1 0 0 1", "0 0 0 1 0 1 1 1"], ["0 - 1 1 0 1 - 1"],
+    ]
+    tables = [files.table_from_rows(outputs) for outputs in rows]
+    return tables + [two_ands(order) for order in orders] + [free_table()]
+
+
+def counts_at(file, place):
+    """The cells held after a build, and those that a swap at a place leaves."""
+    words = ["build", "swapcells", str(place)]
+    return [cases.answer_after(file, words[:length], "state") for length in (1, 3)]
+
+
+def boards_at(file, place):
+    """Boards around the cells held and the cells wanted, and the ends."""
+    return sorted({0, MOST_CELLS, *cases.boards_around(counts_at(file, place))})
+
+
+def board_cases():
+    """Each such board at each place, then the largest one, and what is held each time."""
+    made = []
+    for table in board_tables():
+        for file in (table, read_of(table)):
+            for place in range(file[4] - 1):
+                asked = f"swapcells {place} {LOOK} write"
+                for board in boards_at(file, place):
+                    command = f"build board {board} {asked} board {MOST_CELLS} {asked}"
+                    made.append(desk(file, command))
+    return made
+
+
+def board_changes():
+    """Boards that change between builds and swaps."""
+    commands = [
+        "board 4 build swapcells 1 state cells board 6 swapcells 1 cells swapcells 1 cells",
+        "board 6 build board 5 swapcells 1 state board 6 swapcells 1 cells board 4 swapcells 1",
+        "build board 3 swapcells 1 build state cells board 4 build swapcells 1 state cells",
+        "build swapcells 1 board 4 build swapcells 1 order cells board 6 build order cells",
+        "build board 5 swapcells 3 swapcells 1 swap 0 swapcells 1 build swapcells 0 cells",
+    ]
+    natural, crossed = two_ands([0, 1, 2, 3]), two_ands([0, 2, 1, 3])
+    sources = (natural, crossed, read_of(natural), read_of(crossed))
+    return [desk(file, command) for file in sources for command in commands]
+
+
+def growing_cases(rng):
+    """Random tables at every place that wants more cells: boards from those held on."""
+    made = []
+    for _ in range(40):
+        table = cases.random_table(rng, rng.randint(3, 6), rng.randint(1, 4))
+        file = rng.choice((table, read_of(table)))
+        for place in range(file[4] - 1):
+            held, wanted = counts_at(file, place)
+            boards = sorted({held, wanted - 1, wanted}) if wanted > held else []
+            words = [f"board {board} swapcells {place} state order cells" for board in boards]
+            made += [desk(file, " ".join(["build"] + words + ["write"]))] if words else []
+    return made
+
+
+# Sizes.
+
+
+def turn_words(rng, n, length):
+    """So many swaps at any places, then the same ones back."""
+    there = [rng.randrange(n - 1) for _ in range(length)]
+    words = []
+    for place in there:
+        words += ["swapcells", str(place), "state"]
+    words += ["order", "cells", "count", "write"]
+    for place in there[::-1]:
+        words += ["swapcells", str(place)]
+    return words + ["order", "cells"]
+
+
+def outputs_at(n):
+    """Each number of them, or few where a table takes long."""
+    return range(1, 17) if n < 6 else (1, 2, 7, 16) if n < 9 else (1, 5)
+
+
+def size_cases(rng, n):
+    """Swaps in turn and back, of what was built and of what was read, then a build."""
+    made = []
+    for m in outputs_at(n):
+        table = cases.random_table(rng, n, m)
+        words = ["build", "cells"] + turn_words(rng, n, 6 if n < 8 else 2)
+        words += ["rows"] if n < 8 else []
+        made.append(Case("desk", words + ["build", "cells"], table))
+        if n < 9:
+            made.append(Case("desk", words + ["build", "cells"], read_of(table)))
+    return made
+
+
+def with_a_build(rng):
+    """Fully cared tables: the swap in the cells, and beside it a swap and a build."""
+    made = []
+    for n in range(2, 9):
+        m = rng.choice((1, 2, 3, 16)) if n < 7 else 2
+        bits = cases.pooled_bits(rng, n, m)
+        table = files.table_file(n, m, cases.random_order(rng, n), bits, [1] * len(bits))
+        place = rng.randrange(n - 1)
+        for words in (f"build swapcells {place}", f"build swap {place} build"):
+            made.append(desk(table, words + " order state cells write rows"))
+    return made
+
+
+def written_after(rng):
+    """Network files of cells that a swap has left, read again."""
+    made = []
+    for n in range(2, 7):
+        table = cases.random_table(rng, n, rng.randint(1, 4))
+        held = expected.Desk()
+        held.begin(table)
+        held.call("build", None)
+        held.call("swapcells", rng.randrange(n - 1))
+        made.append(desk(held.written()[1], LOOK + " swapcells 0 cells write build write"))
+    return made
+
+
+def widest_cases(rng):
+    """All 2,159 cells: a board of just so many, and one too small for those held."""
+    table = cases.widest_cases(rng)[0].table
+    command = "build board 2158 swapcells 3 state board 2159 swapcells 3 state order"
+    return [desk(table, command + " swapcells 8 state cells eval 777 write")]
+
+
+def groups(seed):
+    """All groups as (name, function that makes the cases)."""
+    made = {
+        "swap words": word_cases, "swap places": place_cases, "swap boards": board_cases,
+        "swap board changes": board_changes,
+    }
+
+    def seeded(name, make, *arguments):
+        made[name] = lambda: make(random.Random(f"{seed} {name}"), *arguments)
+
+    seeded("swap growing", growing_cases)
+    for n in range(2, 11):
+        seeded(f"swap {n}", size_cases, n)
+    seeded("swap and build", with_a_build)
+    seeded("swap written", written_after)
+    seeded("swap widest", widest_cases)
+    return made
