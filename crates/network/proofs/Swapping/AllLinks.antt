@@ -58,7 +58,9 @@ module _ (node : ℕ → Node) (p : ℕ) (fs : List Pair) where
 
   -- behind those of the outputs
   pub trace-length : (n : ℕ) → length (allLinks (exchangedTrace node p n fs)) ≡ length fs + length (linksAbove n)
-  trace-length n = ap length (trace-links n) ∙ length-append (linksFrom [] fs) (linksAbove n) ∙ ap (λ (k : ℕ). k + length (linksAbove n)) (linksFrom-length [] fs)
+  trace-length n =
+      ap length (trace-links n) ∙ length-append (linksFrom [] fs) (linksAbove n)
+      ∙ ap (λ (k : ℕ). k + length (linksAbove n)) (linksFrom-length [] fs)
 
   above-more : (q : ℕ) → linksAbove (q + 1) ≡ linksAbove q ++ levelLinks node p fs q
   above-more q =

@@ -12,7 +12,8 @@ use Rattle.diagram.proofs.PairBounds.{linksFrom-length}
 use Rattle.fill.specs.Work.{linksAt, linkNumber}
 use Rattle.network.specs.inner.Levels.{putStored}
 use Rattle.network.specs.inner.Exchange.{pairOf, pairsIn, slots, Shows, putLinks}
-use Rattle.network.proofs.Swapping.LevelLinks.{shows-as, shows-length, shows-none, entries-append, links-append, entries-few, put-append}
+use Rattle.network.proofs.Swapping.LevelLinks.{shows-as, shows-length, shows-none}
+use Rattle.network.proofs.Swapping.LevelLinks.{entries-append, links-append, entries-few, put-append}
 
 -- the first j roots are linked, and len, the list and the work buffer are what they leave
 module _ (roots work₀ : List ℕ) where
@@ -33,7 +34,8 @@ module _ (roots work₀ : List ℕ) where
     pub roots-few : {len : ℕ} {list marks work : List ℕ} → Rooted j len list marks work → len ≤ j
     roots-few t = omega (arith, shows-length (t .shows), entries-few [] (rootPairs j), pairs-long)
 
-    pub roots-more : (x : ℕ) → pairOf x ≡ both (getD roots j 0) → (len len′ : ℕ) (list list′ marks marks′ work work′ : List ℕ) (link at : ℕ) → at ≡ linksAt + 2 * j
+    pub roots-more : (x : ℕ) → pairOf x ≡ both (getD roots j 0) → (len len′ : ℕ) (list list′ marks marks′ work work′ : List ℕ)
+        (link at : ℕ) → at ≡ linksAt + 2 * j
         → Rooted j len list marks work → Shows (entriesAfter (pairsIn len list) (pairOf x)) len′ list′ marks′
         → link ≡ linkNumber (linkInto (entriesAfter (pairsIn len list) (pairOf x)) (pairOf x)) → work′ ≡ putStored work at link
         → Rooted (j + 1) len′ list′ marks′ work′
@@ -41,7 +43,8 @@ module _ (roots work₀ : List ℕ) where
         let gs = entriesFrom [] (rootPairs j) in
         let f = both (getD roots j 0) in
         let ls = linksFrom [] (rootPairs j) in
-        let more : rootPairs (j + 1) ≡ rootPairs j ++ (f ∷ []) = ap (map both) (take-more roots j h) ∙ map-append both (take j roots) (getD roots j 0 ∷ []) in
+        let more : rootPairs (j + 1) ≡ rootPairs j ++ (f ∷ []) =
+        ap (map both) (take-more roots j h) ∙ map-append both (take j roots) (getD roots j 0 ∷ []) in
         let le : linksFrom [] (rootPairs (j + 1)) ≡ ls ++ (linkInto (entriesAfter gs f) f ∷ []) =
         ap (linksFrom []) more ∙ links-append [] (rootPairs j) (f ∷ []) in
         let k : at ≡ linksAt + 2 * length ls = omega (arith, linksFrom-length [] (rootPairs j), pairs-long) in

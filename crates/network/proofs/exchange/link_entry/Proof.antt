@@ -18,7 +18,8 @@ use Rattle.network.proofs.exchange.link_entry.Tie as tie
 
 link-half-requires : tie.Need-link-half-requires
 link-half-requires c κs =
-    let b = c .before .before .before .before .before .before .before in ((b .pre .0 .0, b .pre .0 .1, b .pre .0 .2, omega arith), (b .pre .1 .0, omega arith))
+    let b = c .before .before .before .before .before .before .before in
+    ((b .pre .0 .0, b .pre .0 .1, b .pre .0 .2, omega arith), (b .pre .1 .0, omega arith))
 
 add-link-half : tie.Need-add-link-half
 add-link-half c = search needs
@@ -52,12 +53,14 @@ returns c =
     let a = z .before .before .before .before .before .before .before .before .args in
     let gs = pairsIn (a .len) (now (a .list)) in
     let half : Bool → Pair = λ b. halfPair (lentAt (now (a .cells))) (a .p) (a .q) b (pairOf (a .x)) in
-    let e = h .ensures .1 .0 ∙ ap (λ (g : List Pair). linkNumber (linkInto (entriesAfter g (half true)) (half true))) (k .ensures .0 .shown) in (
+    let e = h .ensures .1 .0 ∙ ap (λ (g : List Pair). linkNumber (linkInto (entriesAfter g (half true)) (half true)))
+    (k .ensures .0 .shown) in (
       shows-as (ap (λ (g : List Pair). entriesAfter g (half true)) (k .ensures .0 .shown)) (h .ensures .0),
       (
         halves-put gs (half false) (half true) (now (a .work)) _ (a .at) (k .result .link) (h .result .link) (k .ensures .1 .0) e
             (h .ensures .1 .1 ∙ ap (λ (w : List ℕ). putStored w (a .at + 2) (h .result .link)) (k .ensures .1 .1)),
-        halves-same gs (half false) (half true) (now (a .work)) (now (a .work)) (a .at) (k .result .link) (h .result .link) (k .ensures .1 .0) e
+        halves-same gs (half false) (half true) (now (a .work)) (now (a .work)) (a .at) (k .result .link) (h .result .link)
+            (k .ensures .1 .0) e
             (c .if1 .taken),
       ),
     )
@@ -80,12 +83,14 @@ returns-2 c =
     let a = z .before .before .before .before .before .before .before .before .args in
     let gs = pairsIn (a .len) (now (a .list)) in
     let half : Bool → Pair = λ b. halfPair (lentAt (now (a .cells))) (a .p) (a .q) b (pairOf (a .x)) in
-    let e = h .ensures .1 .0 ∙ ap (λ (g : List Pair). linkNumber (linkInto (entriesAfter g (half true)) (half true))) (k .ensures .0 .shown) in (
+    let e = h .ensures .1 .0 ∙ ap (λ (g : List Pair). linkNumber (linkInto (entriesAfter g (half true)) (half true)))
+    (k .ensures .0 .shown) in (
       shows-as (ap (λ (g : List Pair). entriesAfter g (half true)) (k .ensures .0 .shown)) (h .ensures .0),
       (
         halves-put gs (half false) (half true) (now (a .work)) _ (a .at) (k .result .link) (h .result .link) (k .ensures .1 .0) e
             (h .ensures .1 .1 ∙ ap (λ (w : List ℕ). putStored w (a .at + 2) (h .result .link)) (k .ensures .1 .1)),
-        halves-differ gs (half false) (half true) (now (a .work)) (now (a .work)) (a .at) (k .result .link) (h .result .link) (k .ensures .1 .0) e
+        halves-differ gs (half false) (half true) (now (a .work)) (now (a .work)) (a .at) (k .result .link) (h .result .link)
+            (k .ensures .1 .0) e
             (c .if1 .left),
       ),
     )

@@ -37,31 +37,38 @@ mul-link-entry : tie.Need-mul-link-entry Inv-loop μ-loop
 mul-link-entry c = omega arith
 
 add-link-entry : tie.Need-add-link-entry Inv-loop μ-loop
-add-link-entry c = omega (arith, c .before .before .before .before .before .before .before .before .before .before .before .pre .1 .0)
+add-link-entry c =
+    let b8 = c .before .before .before .before .before .before .before .before in
+    omega (arith, b8 .before .before .before .pre .1 .0)
 
 link-entry-requires : tie.Need-link-entry-requires Inv-loop μ-loop
 link-entry-requires c κs =
+    let b8 = c .before .before .before .before .before .before .before .before in
     let l = c .before .before .before .before .before .loop in
-    let b = c .before .before .before .before .before .before .before .before .before .before .before in
+    let b = b8 .before .before .before in
     let a = b .args in
-    let few = turns-few (lentAt (now (a .cells))) (a .p) (a .q) (now (a .seen)) (a .at) (now (a .work)) (l .j) (search needs) (l .inv .2) in (
+    let few = turns-few (lentAt (now (a .cells))) (a .p) (a .q) (now (a .seen)) (a .at) (now (a .work)) (l .j) (search needs)
+    (l .inv .2) in (
       (b .pre .0 .0, c .before .before .before .entry-at .ensures .1, l .inv .2 .shows .seen, omega (arith, few, l .inv .3, b .pre .0 .2)),
       (omega (arith, l .inv .3, b .pre .0 .3), omega (arith, l .inv .4, b .pre .1 .0)),
     )
 
 add-count : tie.Need-add-count Inv-loop μ-loop
 add-count c =
-    let a = c .before .before .before .before .before .before .before .before .before .before .before .before .before .before .before .before .before .before .before .args in
-    let l = c .before .before .before .before .before .before .before .before .before .before .before .before .before .loop in
+    let b8 = c .before .before .before .before .before .before .before .before in
+    let b16 = b8 .before .before .before .before .before .before .before .before in
+    let a = b16 .before .before .before .args in
+    let l = b8 .before .before .before .before .before .loop in
     let k = c .before .before .before .before .before .before .before .link-entry in
     omega (
       arith,
-      counts-once (lentAt (now (a .cells))) (a .p) (a .q) (pairsIn (l .len) (l .list)) (pairOf (c .before .before .before .before .before .before .before .before .before .before .before .entry-at .result)) (k .result .count)
+      counts-once (lentAt (now (a .cells))) (a .p) (a .q) (pairsIn (l .len) (l .list))
+          (pairOf (b8 .before .before .before .entry-at .result)) (k .result .count)
           (k .ensures .1 .1),
       l .inv .1,
-      c .before .before .before .before .before .before .before .before .before .before .before .before .loop-test .taken,
-      c .before .before .before .before .before .before .before .before .before .before .before .before .before .before .before .before .before .before .before .pre .0 .2,
-      c .before .before .before .before .before .before .before .before .before .before .before .before .before .before .before .before .before .before .before .pre .0 .3,
+      b8 .before .before .before .before .loop-test .taken,
+      b16 .before .before .before .pre .0 .2,
+      b16 .before .before .before .pre .0 .3,
     )
 
 add-j : tie.Need-add-j Inv-loop μ-loop
@@ -72,19 +79,23 @@ loop-less c = search needs
 
 loop-again : tie.Need-loop-again Inv-loop μ-loop
 loop-again c =
-    let l = c .before .before .before .before .before .before .before .before .before .before .before .before .before .loop in
-    let b = c .before .before .before .before .before .before .before .before .before .before .before .before .before .before .before .before .before .before .before in
+    let b8 = c .before .before .before .before .before .before .before .before in
+    let b16 = b8 .before .before .before .before .before .before .before .before in
+    let l = b8 .before .before .before .before .before .loop in
+    let b = b16 .before .before .before in
     let a = b .args in
     let k = c .before .before .before .before .before .before .before .link-entry in
-    let x = c .before .before .before .before .before .before .before .before .before .before .before .entry-at in (
-      omega (arith, c .before .before .before .before .before .before .before .before .before .before .before .before .loop-test .taken),
+    let x = b8 .before .before .before .entry-at in (
+      omega (arith, b8 .before .before .before .before .loop-test .taken),
       omega (
         arith,
-        counts-once (lentAt (now (a .cells))) (a .p) (a .q) (pairsIn (l .len) (l .list)) (pairOf (x .result)) (k .result .count) (k .ensures .1 .1),
+        counts-once (lentAt (now (a .cells))) (a .p) (a .q) (pairsIn (l .len) (l .list)) (pairOf (x .result)) (k .result .count)
+            (k .ensures .1 .1),
         l .inv .1,
       ),
       turns-more (lentAt (now (a .cells))) (a .p) (a .q) (now (a .seen)) (a .at) (now (a .work)) (l .j)
-          (omega (arith, b .pre .0 .1, c .before .before .before .before .before .before .before .before .before .before .before .before .loop-test .taken)) (x .result) (x .ensures .0) (l .len) (k .result .len) (l .list) _ (l .marks) _
+          (omega (arith, b .pre .0 .1, b8 .before .before .before .before .loop-test .taken)) (x .result) (x .ensures .0) (l .len)
+          (k .result .len) (l .list) _ (l .marks) _
           (l .work) _ (l .count) (k .result .count) (l .inv .2) (k .ensures .0) (k .ensures .1 .0) (k .ensures .1 .1),
       search needs,
       search needs,
@@ -104,7 +115,8 @@ returns c =
     let l = c .before .loop in
     let a = c .before .before .before .before .before .before .before .args in
     let e : l .j ≡ a .e = omega arith in
-    let t = subst (λ (j : ℕ). Turns (lentAt (now (a .cells))) (a .p) (a .q) (now (a .seen)) (a .at) (now (a .work)) j (l .len) (l .list) (l .marks)
+    let t = subst (λ (j : ℕ). Turns (lentAt (now (a .cells))) (a .p) (a .q) (now (a .seen)) (a .at) (now (a .work)) j (l .len) (l .list)
+    (l .marks)
     (l .work) (l .count)) e (l .inv .2) in
     ((t .shows .seen .fits, t .shows .shown), (t .put, t .counted))
 

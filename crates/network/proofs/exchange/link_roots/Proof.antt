@@ -21,7 +21,8 @@ abbrev μ-loop : tie.MeasureT-loop
 
 loop-holds : tie.Need-loop-holds Inv-loop μ-loop
 loop-holds c =
-    let b = c .before .before .before .before in (search needs, roots-none (now (b .args .roots)) (now (b .args .work)) (b .pre .1 .1), refl, refl)
+    let b = c .before .before .before .before in
+    (search needs, roots-none (now (b .args .roots)) (now (b .args .work)) (b .pre .1 .1), refl, refl)
 
 lent-number-requires : tie.Need-lent-number-requires Inv-loop μ-loop
 lent-number-requires c κs = tt
@@ -31,9 +32,11 @@ joined-requires c κs = (c .lent-number .ensures .1, c .lent-number .ensures .1)
 
 place-requires : tie.Need-place-requires Inv-loop μ-loop
 place-requires c κs =
+    let b8 = c .before .before .before .before .before .before .before .before in
     let l = c .before .before .before .before .before .loop in
-    let b = c .before .before .before .before .before .before .before .before .before .before in
-    let few = roots-few (now (b .args .roots)) (now (b .args .work)) (l .j) (omega (arith, b .pre .0 .1, c .before .before .before .before .loop-test .taken)) (l .inv .1) in (
+    let b = b8 .before .before in
+    let few = roots-few (now (b .args .roots)) (now (b .args .work)) (l .j)
+    (omega (arith, b .pre .0 .1, c .before .before .before .before .loop-test .taken)) (l .inv .1) in (
       c .before .before .joined .ensures .1,
       l .inv .1 .shows .seen,
       omega (arith, few, l .inv .2, b .pre .0 .2, c .before .before .before .before .loop-test .taken),
@@ -41,16 +44,24 @@ place-requires c κs =
     )
 
 mul-put-stored : tie.Need-mul-put-stored Inv-loop μ-loop
-mul-put-stored c = omega (arith, c .before .before .before .before .before .before .before .before .before .before .before .before .before .before .before .before .pre .0 .0, c .before .before .before .before .before .before .before .before .before .before .loop-test .taken)
+mul-put-stored c =
+    let b8 = c .before .before .before .before .before .before .before .before in
+    let b16 = b8 .before .before .before .before .before .before .before .before in
+    omega (arith, b16 .pre .0 .0, b8 .before .before .loop-test .taken)
 
 add-put-stored : tie.Need-add-put-stored Inv-loop μ-loop
-add-put-stored c = omega (arith, c .before .before .before .before .before .before .before .before .before .before .before .before .before .before .before .before .pre .0 .0, c .before .before .before .before .before .before .before .before .before .before .loop-test .taken)
+add-put-stored c =
+    let b8 = c .before .before .before .before .before .before .before .before in
+    let b16 = b8 .before .before .before .before .before .before .before .before in
+    omega (arith, b16 .pre .0 .0, b8 .before .before .loop-test .taken)
 
 put-stored-requires : tie.Need-put-stored-requires Inv-loop μ-loop
 put-stored-requires c κs =
-    let l = c .before .before .before .before .before .before .before .before .before .before .before .loop in
-    let b = c .before .before .before .before .before .before .before .before .before .before .before .before .before .before .before .before in
-    (omega (arith, l .inv .3, b .pre .1 .0, links-at, c .before .before .before .before .before .before .before .before .before .before .loop-test .taken), c .before .before .before .before .before .place .ensures .1 .1)
+    let b8 = c .before .before .before .before .before .before .before .before in
+    let b16 = b8 .before .before .before .before .before .before .before .before in
+    let l = b8 .before .before .before .loop in
+    let b = b16 in
+    (omega (arith, l .inv .3, b .pre .1 .0, links-at, b8 .before .before .loop-test .taken), c .before .before .before .before .before .place .ensures .1 .1)
 
 add-j : tie.Need-add-j Inv-loop μ-loop
 add-j c = search needs
@@ -60,16 +71,19 @@ loop-less c = search needs
 
 loop-again : tie.Need-loop-again Inv-loop μ-loop
 loop-again c =
-    let l = c .before .before .before .before .before .before .before .before .before .before .before .before .before .before .loop in
-    let b = c .before .before .before .before .before .before .before .before .before .before .before .before .before .before .before .before .before .before .before in
-    let h = c .before .before .before .before .before .before .before .before .before .before .before .before .before .loop-test .taken in
-    let r = c .before .before .before .before .before .before .before .before .before .before .before .before .lent-number in
-    let x = c .before .before .before .before .before .before .before .before .before .before .before .joined in
-    let k = c .before .before .before .before .before .before .before .before .place in (
+    let b8 = c .before .before .before .before .before .before .before .before in
+    let b16 = b8 .before .before .before .before .before .before .before .before in
+    let l = b8 .before .before .before .before .before .before .loop in
+    let b = b16 .before .before .before in
+    let h = b8 .before .before .before .before .before .loop-test .taken in
+    let r = b8 .before .before .before .before .lent-number in
+    let x = b8 .before .before .before .joined in
+    let k = b8 .place in (
       omega (arith, h),
       roots-more (now (b .args .roots)) (now (b .args .work)) (l .j) (omega (arith, b .pre .0 .1, h)) (x .result)
           (x .ensures .0 ∙ ap both (r .ensures .0)) (l .len) (k .result .len) (l .list) _ (l .marks) _ (l .work) _ (k .result .link)
-          (8192 + 2 * l .j) (omega (arith, links-at)) (l .inv .1) (k .ensures .0) (k .ensures .1 .0) (c .before .before .put-stored .ensures),
+          (8192 + 2 * l .j) (omega (arith, links-at)) (l .inv .1) (k .ensures .0) (k .ensures .1 .0)
+          (c .before .before .put-stored .ensures),
       search needs,
       search needs,
     )

@@ -30,9 +30,11 @@ same-length-3 c = search needs
 
 returns : tie.Need-returns
 returns c =
-    let k = c .before .before .before .before .before .before .before .before .before .before .link-level in
+    let b8 = c .before .before .before .before .before .before .before .before in
+    let b16 = b8 .before .before .before .before .before .before .before .before in
+    let k = b8 .before .before .link-level in
     let y = c .before .before .copy-pairs in
-    let b = c .before .before .before .before .before .before .before .before .before .before .before .before .before .before .before .before .before .before .before in
+    let b = b16 .before .before .before in
     let l : length (y .last .1 .1 .0) ≡ length (now (b .args .seen)) = search needs in
     let h : length (k .last .1 .1 .1 .1 .1 .0) ≡ length (now (b .args .list)) = search needs in (
       (omega (arith, k .ensures .0 .0, l, h, b .pre .0 .2), ap (map pairOf) (y .ensures) ∙ k .ensures .0 .1),

@@ -33,13 +33,30 @@ same-length-3 c = search needs
 
 returns : tie.Need-returns
 returns c =
-    let a = c .before .before .before .before .before .before .before .before .before .before .before .before .before .before .before .before .before .before .before .args in
+    let b8 = c .before .before .before .before .before .before .before .before in
+    let b16 = b8 .before .before .before .before .before .before .before .before in
+    let a = b16 .before .before .before .args in
     let y = c .before .before .before .before .before .before .swap-checked in
     let o = y .ensures .0 in
     let r = y .ensures .1 .0 in
     let d = y .ensures .1 .1 .0 in
-    let w = y .ensures .1 .1 .1 in
-    (o, (r, (d, (w, (swapped-left (a .state) (a .p) (now (a .work)) (now (a .roots)) (now (a .cells)) (y .result) o _ _ r d, fit-left (a .state) (a .p) (now (a .work)) (now (a .roots)) (now (a .cells)) (y .result) o)))))
+    let w = y .ensures .1 .1 .1 in (
+      o,
+      (
+        r,
+        (
+          d,
+          (
+            w,
+            (
+              swapped-left (a .state) (a .p) (now (a .work)) (now (a .roots)) (now (a .cells)) (y .result) o _ _ r d,
+              fit-left
+                  (a .state) (a .p) (now (a .work)) (now (a .roots)) (now (a .cells)) (y .result) o,
+            ),
+          ),
+        ),
+      ),
+    )
 
 number-of-requires : tie.Need-number-of-requires
 number-of-requires c κs = search needs
@@ -58,13 +75,23 @@ same-length-6 c = search needs
 
 returns-2 : tie.Need-returns-2
 returns-2 c =
-    let a = c .before .before .before .before .before .before .before .before .before .before .before .before .before .before .before .args in
-    let k = c .before .before .before .before .before .before .before .before .swap-checks in
+    let b8 = c .before .before .before .before .before .before .before .before in
+    let a = b8 .before .before .before .before .before .before .before .args in
+    let k = b8 .swap-checks in
     let i = c .before .before .before .before .before .before .before .is-done in
     let d = sym (ap done (k .ensures)) ∙ sym (i .ensures) ∙ c .before .before .before .before .before .before .if1 .left in
     let n = c .before .before .before .before .before .number-of in
-    let e = cleared-case (a .state) (a .p) (now (a .work)) (now (a .roots)) (now (a .cells)) d (k .result) (k .ensures) (sym (n .ensures) ∙ c .before .before .before .before .if2 .taken) _ (c .before .before .clear .ensures) in
-    (e .0, (e .1 .0, (e .1 .1 .0, (e .1 .1 .1, (never (sym (i .ensures) ∙ c .before .before .before .before .before .before .if1 .left), never d)))))
+    let e = cleared-case (a .state) (a .p) (now (a .work)) (now (a .roots)) (now (a .cells)) d (k .result) (k .ensures)
+    (sym (n .ensures) ∙ c .before .before .before .before .if2 .taken) _ (c .before .before .clear .ensures) in (
+      e .0,
+      (
+        e .1 .0,
+        (
+          e .1 .1 .0,
+          (e .1 .1 .1, (never (sym (i .ensures) ∙ c .before .before .before .before .before .before .if1 .left), never d)),
+        ),
+      ),
+    )
 
 same-length-7 : tie.Need-same-length-7
 same-length-7 c = search needs
@@ -77,12 +104,14 @@ same-length-9 c = search needs
 
 returns-3 : tie.Need-returns-3
 returns-3 c =
-    let a = c .before .before .before .before .before .before .before .before .before .before .before .args in
+    let b8 = c .before .before .before .before .before .before .before .before in
+    let a = b8 .before .before .before .args in
     let k = c .before .before .before .before .swap-checks in
     let i = c .before .before .before .is-done in
     let d = sym (ap done (k .ensures)) ∙ sym (i .ensures) ∙ c .before .before .if1 .left in
     let n = c .before .number-of in
-    let e = kept-case (a .state) (a .p) (now (a .work)) (now (a .roots)) (now (a .cells)) d (k .result) (k .ensures) (λ z. c .if2 .left (n .ensures ∙ z)) in
+    let e = kept-case (a .state) (a .p) (now (a .work)) (now (a .roots)) (now (a .cells)) d (k .result) (k .ensures)
+    (λ z. c .if2 .left (n .ensures ∙ z)) in
     (e .0, (e .1 .0, (e .1 .1 .0, (e .1 .1 .1, (never (sym (i .ensures) ∙ c .before .before .if1 .left), never d)))))
 
 pub swap-cells-spec : {M : Type 1} → statement M

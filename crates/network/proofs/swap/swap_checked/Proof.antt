@@ -23,7 +23,13 @@ exchanged-links-requires c κs =
     let a = b .args in
     let P = passed (a .state) (a .p) (now (a .work)) (now (a .roots)) (now (a .cells)) (b .pre) in
     let n = few (a .state) (a .p) (now (a .work)) (now (a .roots)) (now (a .cells)) P in (
-      (n, omega (arith, P .place, n), few′ (a .state) (a .p) (now (a .work)) (now (a .roots)) (now (a .cells)) P, omega (arith, few′ (a .state) (a .p) (now (a .work)) (now (a .roots)) (now (a .cells)) P, P .tested .long, roots-size)),
+      (
+        n,
+        omega (arith, P .place, n),
+        few′ (a .state) (a .p) (now (a .work)) (now (a .roots)) (now (a .cells)) P,
+        omega
+            (arith, few′ (a .state) (a .p) (now (a .work)) (now (a .roots)) (now (a .cells)) P, P .tested .long, roots-size),
+      ),
       (held-room (a .state) (a .p) (now (a .work)) (now (a .roots)) (now (a .cells)) P, P .enough),
     )
 
@@ -44,22 +50,28 @@ same-length-3 c = search needs
 
 returns : tie.Need-returns
 returns c =
+    let b8 = c .before .before .before .before .before .before .before .before in
+    let b16 = b8 .before .before .before .before .before .before .before .before in
     let v = c .before .before .before .before in
     let k = v .before .before .before .before .exchanged-links in
-    let b = c .before .before .before .before .before .before .before .before .before .before .before .before .before .before .before .before in
+    let b = b16 in
     let a = b .args in
     let P = passed (a .state) (a .p) (now (a .work)) (now (a .roots)) (now (a .cells)) (b .pre) in
-    small-case (a .state) (a .p) (now (a .work)) (now (a .roots)) (now (a .cells)) P (k .result) _ (k .ensures .0) (k .ensures .1) (v .before .value-of .result) (v .before .value-of .ensures) (v .if1 .taken) _
+    small-case (a .state) (a .p) (now (a .work)) (now (a .roots)) (now (a .cells)) P (k .result) _ (k .ensures .0) (k .ensures .1)
+    (v .before .value-of .result) (v .before .value-of .ensures) (v .if1 .taken) _
     (c .before .before .clear .ensures)
 
 lay-out-requires : tie.Need-lay-out-requires
 lay-out-requires c κs =
-    let k = c .before .before .before .before .before .before .before .before .before .exchanged-links in
-    let b = c .before .before .before .before .before .before .before .before .before .before .before .before .before .before .before .before .before in
+    let b8 = c .before .before .before .before .before .before .before .before in
+    let b16 = b8 .before .before .before .before .before .before .before .before in
+    let k = b8 .before .exchanged-links in
+    let b = b16 .before in
     let a = b .args in
     let P = passed (a .state) (a .p) (now (a .work)) (now (a .roots)) (now (a .cells)) (b .pre) in
     let v = c .before .before .before .before .before in
-    ready (a .state) (a .p) (now (a .work)) (now (a .roots)) (now (a .cells)) P (k .result) _ (k .ensures .0) (k .ensures .1) (v .before .value-of .result) (v .before .value-of .ensures) (v .if1 .left)
+    ready (a .state) (a .p) (now (a .work)) (now (a .roots)) (now (a .cells)) P (k .result) _ (k .ensures .0) (k .ensures .1)
+    (v .before .value-of .result) (v .before .value-of .ensures) (v .if1 .left)
 
 with-network-requires : tie.Need-with-network-requires
 with-network-requires c κs = search needs
@@ -75,14 +87,19 @@ same-length-6 c = search needs
 
 returns-2 : tie.Need-returns-2
 returns-2 c =
-    let y = c .before .before .before .before .before .before .before .before .lay-out in
-    let k = c .before .before .before .before .before .before .before .before .before .before .before .before .before .before .before .before .before .before .exchanged-links in
-    let b = c .before .before .before .before .before .before .before .before .before .before .before .before .before .before .before .before .before .before .before .before .before .before .before .before .before .before in
+    let b8 = c .before .before .before .before .before .before .before .before in
+    let b16 = b8 .before .before .before .before .before .before .before .before in
+    let b24 = b16 .before .before .before .before .before .before .before .before in
+    let y = b8 .lay-out in
+    let k = b16 .before .before .exchanged-links in
+    let b = b24 .before .before in
     let a = b .args in
     let P = passed (a .state) (a .p) (now (a .work)) (now (a .roots)) (now (a .cells)) (b .pre) in
-    let v = c .before .before .before .before .before .before .before .before .before .before .before .before .before .before in
-    let e = ap (λ (o : Outcome). o .state) (c .before .before .before .before .before .before .before .before .before .before .before .before .before .before .before .before .before .before .before .before .before .before .swap .ensures) ∙ swapped-state (a .state) (a .p) (now (a .work)) (now (a .roots)) (now (a .cells)) P in
-    laid-case (a .state) (a .p) (now (a .work)) (now (a .roots)) (now (a .cells)) P (k .result) _ (k .ensures .0) (k .ensures .1) (v .before .value-of .result) (v .before .value-of .ensures) (v .if1 .left) _ _ _
+    let v = b8 .before .before .before .before .before .before in
+    let e = ap (λ (o : Outcome). o .state) (b16 .before .before .before .before .before .before .swap .ensures) ∙ swapped-state
+    (a .state) (a .p) (now (a .work)) (now (a .roots)) (now (a .cells)) P in
+    laid-case (a .state) (a .p) (now (a .work)) (now (a .roots)) (now (a .cells)) P (k .result) _ (k .ensures .0) (k .ensures .1)
+    (v .before .value-of .result) (v .before .value-of .ensures) (v .if1 .left) _ _ _
     (y .ensures .0) (y .ensures .1 .0) (y .ensures .1 .1) (c .with-network .result)
     (c .with-network .ensures ∙ ap (λ (x : State). networkState x (v .before .value-of .result)) e)
 

@@ -12,10 +12,12 @@ use Rattle.network.proofs.swap.swap_checks.Statement.{statement}
 use Rattle.network.proofs.swap.swap_checks.Tie as tie
 
 returns : tie.Need-returns
-returns c = let a = c .before .before .before .before .args in short-work (a .state) (a .p) (now (a .work)) (now (a .roots)) (now (a .cells)) (Done 0) (c .if1 .taken)
+returns c = let a = c .before .before .before .before .args in short-work (a .state) (a .p) (now (a .work)) (now (a .roots))
+    (now (a .cells)) (Done 0) (c .if1 .taken)
 
 returns-2 : tie.Need-returns-2
-returns-2 c = let a = c .before .before .before .before .before .args in short-roots (a .state) (a .p) (now (a .work)) (now (a .roots)) (now (a .cells)) (Done 0) (c .if2 .taken)
+returns-2 c = let a = c .before .before .before .before .before .args in short-roots (a .state) (a .p) (now (a .work)) (now (a .roots))
+    (now (a .cells)) (Done 0) (c .if2 .taken)
 
 holds-network-requires : tie.Need-holds-network-requires
 holds-network-requires c κs = search needs
@@ -24,7 +26,8 @@ returns-3 : tie.Need-returns-3
 returns-3 c =
     let i = c .before .before in
     let a = i .before .before .before .before .before .args in
-    no-network (a .state) (a .p) (now (a .work)) (now (a .roots)) (now (a .cells)) (i .before .if1 .left) (i .if2 .left) (Done 0) (sym (c .before .holds-network .ensures) ∙ not-true (c .before .holds-network .result) (c .if3 .taken))
+    no-network (a .state) (a .p) (now (a .work)) (now (a .roots)) (now (a .cells)) (i .before .if1 .left) (i .if2 .left) (Done 0)
+    (sym (c .before .holds-network .ensures) ∙ not-true (c .before .holds-network .result) (c .if3 .taken))
 
 swap-requires : tie.Need-swap-requires
 swap-requires c κs = search needs
