@@ -60,3 +60,7 @@ pub mod Exchange
 pub mod SameTable
 pub mod PairBounds
 pub mod OwnNodes
+pub mod Shuffle
+pub mod Lowered
+pub mod LoweredCounts
+pub mod LoweredOrder
