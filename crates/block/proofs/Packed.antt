@@ -7,7 +7,7 @@ use native.Mathlib.Nat.{add-comm}
 use native.Mathlib.Numerals.{add-one}
 use native.Mathlib.Omega.{arith}
 use lib.Bits.{bitOr, or-shifted-r}
-use lib.Dec.{eqb, eqb→eq, lit<}
+use lib.Dec.{eqb, eqb→eq}
 use lib.Pow.{shl-exact, low, high}
 use Rattle.diagram.specs.Lists.{digit}
 use Rattle.diagram.proofs.Bools.{split, to-T}
@@ -31,11 +31,14 @@ packed-cong (suc k) f g e = ap₂ (λ x b. x + digit b * 2 ^ k) (packed-cong k f
 
 -- one bit more
 module _ (k : ℕ) (f : ℕ → Bool) (byte : ℕ) (e : byte ≡ packed k f) where
+  pub bit-more : (d : ℕ) → k < 8 → d ≡ digit (f k) → bitOr byte (d * 2 ^ k % 256) ≡ packed (k + 1) f
+  bit-more d h q =
+      let s : d * 2 ^ k % 256 ≡ d * 2 ^ k = shl-exact 1 k 8 (omega (arith, digit-le (f k))) (omega arith) in
+      ap₂ bitOr e s ∙ or-shifted-r d k (packed k f) (packed-lt k f) ∙ add-comm (d * 2 ^ k) (packed k f)
+      ∙ ap (λ x. packed k f + x * 2 ^ k) q ∙ ap (λ j. packed j f) (sym (add-one k))
+
   pub bit-set : k < 8 → f k ≡ true → bitOr byte (1 * 2 ^ k % 256) ≡ packed (k + 1) f
-  bit-set h t =
-      let s : 1 * 2 ^ k % 256 ≡ 1 * 2 ^ k = shl-exact {a = 1} 1 k 8 (lit< tt) (omega arith) in
-      let q : packed (k + 1) f ≡ packed k f + 1 * 2 ^ k = ap (λ j. packed j f) (add-one k) ∙ ap (λ b. packed k f + digit b * 2 ^ k) t in
-      ap₂ bitOr e s ∙ or-shifted-r 1 k (packed k f) (packed-lt k f) ∙ omega arith
+  bit-set h t = bit-more 1 h (ap digit (sym t))
 
   pub bit-clear : f k ≡ false → byte ≡ packed (k + 1) f
   bit-clear t =

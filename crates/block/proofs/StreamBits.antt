@@ -4,7 +4,6 @@ use mathlib.Core.Path.{_≡_, sym, ap, _∙_}
 use mathlib.Core.List.{List}
 use Prim.Native.Nat.{ℕ, suc, _*_, _-_, _/_, _%_, _^_, _<_}
 use native.Mathlib.Omega.{arith}
-use lib.Dec.{eqb}
 use lib.Bits.{bitAnd, and-mask, mask-lt}
 use lib.ListN.{getD}
 use Rattle.diagram.specs.Lists.{digit, bit}
@@ -26,8 +25,8 @@ bit-masked n p s =
     and-mask (s / 2 ^ (n - 1 - p)) 1 ∙ ap (λ k. s / 2 ^ k % 2) e ∙ sym (digit-eqb (s / 2 ^ (n - suc p) % 2) (omega arith))
 
 -- bit i is the lowest of byte i / 8 shifted down by i mod 8
-pub bit-shifted : (bytes : List ℕ) (i x : ℕ) → x ≡ getD bytes (i / 8) 0 → eqb (bitAnd (x / 2 ^ bitAnd i 7) 1) 1 ≡ streamBit bytes i
+pub bit-shifted : (bytes : List ℕ) (i x : ℕ) → x ≡ getD bytes (i / 8) 0 → bitAnd (x / 2 ^ bitAnd i 7) 1 ≡ digit (streamBit bytes i)
 unfolding streamBit
 bit-shifted bytes i x e =
-    ap (λ (k : ℕ). eqb (bitAnd (x / 2 ^ k) 1) 1) (and-mask i 3) ∙ ap (λ (y : ℕ). eqb y 1) (and-mask (x / 2 ^ (i % 8)) 1)
-    ∙ ap (λ (y : ℕ). eqb (y / 2 ^ (i % 8) % 2) 1) e
+    ap (λ (k : ℕ). bitAnd (x / 2 ^ k) 1) (and-mask i 3) ∙ and-mask (x / 2 ^ (i % 8)) 1 ∙ ap (λ (y : ℕ). y / 2 ^ (i % 8) % 2) e
+    ∙ sym (digit-eqb (getD bytes (i / 8) 0 / 2 ^ (i % 8) % 2) (omega arith))

@@ -2,6 +2,7 @@
 ghost use mathlib.Core.Path.{_≡_};
 ghost use Prim.Native.Nat.{_<_};
 ghost use lib.ListN.{getD};
+ghost use Rattle.diagram.specs.Lists.{digit};
 ghost use Rattle.block.specs.Bits.{streamBit, wordOf};
 
 // Byte i, or 0 past the end.
@@ -18,11 +19,18 @@ pub fn number_at(bytes: &[u8], i: usize) -> usize
     byte_at(bytes, i) as usize
 }
 
+// Bit i of a stream as a number.
+pub fn digit_at(bytes: &[u8], i: usize) -> u8
+    ensures { λ r. ⌜ r ≡ digit (streamBit (now (bytes .entry)) i) ⌝ }
+{
+    byte_at(bytes, i >> 3) >> (i & 7) & 1
+}
+
 // Bit i of a stream.
 pub fn bit_at(bytes: &[u8], i: usize) -> bool
     ensures { λ r. ⌜ r ≡ streamBit (now (bytes .entry)) i ⌝ }
 {
-    byte_at(bytes, i >> 3) >> (i & 7) & 1 == 1
+    digit_at(bytes, i) == 1
 }
 
 // The first eight bytes as a word, the lowest first.

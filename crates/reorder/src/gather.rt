@@ -3,7 +3,7 @@ use crate::PART;
 use crate::ROWS;
 use crate::width::rows_in;
 use crate::width::width_of;
-use block::bits::bit_at;
+use block::bits::digit_at;
 use diagram::OUTPUTS;
 use diagram::VARIABLES;
 ghost use mathlib.Core.Path.{_≡_};
@@ -23,9 +23,7 @@ fn gather_byte(plane: &[u8], base: usize, map: &[u16], i: usize, k: usize) -> u8
     let mut b: usize = 0;
     while b < k {
         let row = map[8 * i + b] as usize;
-        if bit_at(plane, base + row) {
-            byte |= 1u8 << b;
-        }
+        byte |= digit_at(plane, base + row) << b;
         b += 1;
     }
     byte

@@ -2,15 +2,14 @@
 -- Assumes nothing.
 use borrow.Author.Needs.{needs}
 use denote.Ref.{now}
-use mathlib.Core.Path.{_≡_, sym, ap, _∙_}
+use mathlib.Core.Path.{_≡_, ap, _∙_}
 use mathlib.Core.Bool.{Bool}
-use mathlib.Core.Logic.{⊎-elim}
 use Prim.Native.Nat.{ℕ, _+_, _*_, _≤_, _-_}
 use native.Mathlib.Omega.{arith}
 use lib.ListN.{getD}
 use Rattle.block.specs.Bits.{streamBit}
 use Rattle.reorder.specs.Gather.{gatheredByte}
-use Rattle.block.proofs.Packed.{bit-set, bit-clear}
+use Rattle.block.proofs.Packed.{bit-more}
 use Rattle.reorder.proofs.gather.gather_byte.Statement.{statement}
 use Rattle.reorder.proofs.gather.gather_byte.Tie as tie
 
@@ -40,13 +39,13 @@ cast-row c =
     let a = c .before .before .before .before .before .args in
     omega (arith, c .shared-slice-known3 .given (8 * a .i + c .before .before .loop .b))
 
-add-bit-at : tie.Need-add-bit-at Inv-loop μ-loop
-add-bit-at c =
+add-digit-at : tie.Need-add-digit-at Inv-loop μ-loop
+add-digit-at c =
     let a = c .before .before .before .before .before .args in
     omega (arith, c .shared-slice-known3 .given (8 * a .i + c .before .before .loop .b))
 
-bit-at-requires : tie.Need-bit-at-requires Inv-loop μ-loop
-bit-at-requires c κs = search needs
+digit-at-requires : tie.Need-digit-at-requires Inv-loop μ-loop
+digit-at-requires c κs = search needs
 
 cast-byte : tie.Need-cast-byte Inv-loop μ-loop
 cast-byte c = search needs
@@ -62,14 +61,10 @@ loop-less c = search needs
 
 loop-again : tie.Need-loop-again Inv-loop μ-loop
 loop-again c =
-    let a = c .before .before .before .before .before .before .before .args in
-    let l = c .before .before .before .before .loop in
-    let f : ℕ → Bool = λ b. streamBit (now (a .plane)) (a .base + getD (now (a .map)) (8 * a .i + b) 0) in (
-      search needs,
-      ⊎-elim (λ w. w .1 ∙ bit-set (l .b) f (l .byte) (l .inv .1) (omega arith) (sym (c .before .bit-at .ensures) ∙ w .0 .taken))
-          (λ w. w .1 ∙ bit-clear (l .b) f (l .byte) (l .inv .1) (sym (c .before .bit-at .ensures) ∙ w .0 .left))
-          (c .if1 .came),
-    )
+    let a = c .before .before .before .before .before .before .args in
+    let l = c .before .before .before .loop in
+    let f : ℕ → Bool = λ b. streamBit (now (a .plane)) (a .base + getD (now (a .map)) (8 * a .i + b) 0) in
+    (search needs, bit-more (l .b) f (l .byte) (l .inv .1) (c .digit-at .result) (omega arith) (c .digit-at .ensures))
 
 returns : tie.Need-returns Inv-loop μ-loop
 returns c =
@@ -90,8 +85,8 @@ gather-byte-spec =
     mul-row-2
     shared-slice-read-row
     cast-row
-    add-bit-at
-    bit-at-requires
+    add-digit-at
+    digit-at-requires
     cast-byte
     shl-byte
     add-b
