@@ -1,21 +1,20 @@
 -- The bytes that are gathered under an order: those of the reordered table.
 -- Assumes nothing.
 use mathlib.Core.Path.{_≡_, refl, sym, ap, ap₂, _∙_}
-use mathlib.Core.Bool.{Bool, true, cond, _&&_}
+use mathlib.Core.Bool.{Bool, cond, _&&_}
 use mathlib.Core.List.{List, _++_, map}
 use Prim.Native.Nat.{ℕ, _+_, _*_, _^_, _≤_, _<_, min, zero-le}
 use native.Mathlib.Omega.{arith}
 use borrow.Author.Tests.{lt-ltb, le-ltb, lt-leb, le-leb}
-use lib.Dec.{eqb, ltb}
+use lib.Dec.{ltb}
 use lib.ListN.{length, getD, take, drop, replicate, length-append, length-replicate, getD-replicate}
 use lib.Seq.{ext-getD, take-at}
-use Rattle.diagram.specs.Lists.{index, upTo, bit}
+use Rattle.diagram.specs.Lists.{upTo}
 use Rattle.diagram.specs.Bound.{mostVariables, mostOutputs}
 use Rattle.diagram.specs.Order.{behind}
 use Rattle.diagram.specs.Tree.{draw}
 use Rattle.diagram.specs.Fill.{Row}
 use Rattle.diagram.specs.Table.{reordered}
-use Rattle.diagram.proofs.Bits.{number-cong}
 use Rattle.diagram.proofs.UpTo.{map-upTo-cong, getD-map-upTo, length-map-upTo}
 use Rattle.block.specs.Bits.{streamBit, packed}
 use Rattle.block.proofs.Packed.{packed-cong}
@@ -24,24 +23,10 @@ use Rattle.table.proofs.Filled.{filled}
 use Rattle.reorder.specs.Sizes.{width, mostRows, partSize}
 use Rattle.reorder.specs.inner.Pack.{pack, encode}
 use Rattle.reorder.specs.Gather.{rowMap, gatheredPlane, gatheredPart, outputPart}
-use Rattle.reorder.specs.inner.Rows.{variableLevels, rowOf}
 use Rattle.reorder.proofs.DrawnBytes.{draw-bytes}
 use Rattle.reorder.proofs.Shifts.{rows-room, byte-within}
 
 module _ (n : ℕ) (order : List ℕ) (fits : n ≤ mostVariables) where
-  levels-index : (v : ℕ) → v < n → getD (variableLevels n order) v 0 ≡ index eqb v (take n order)
-  unfolding variableLevels
-  levels-index v h =
-      let e : ltb v n ≡ true = lt-ltb v n h in
-      getD-map-upTo (λ w. cond (ltb w n) (index eqb w (take n order)) 0) mostVariables v 0 (omega arith)
-      ∙ ap (λ b. cond b (index eqb v (take n order)) 0) e
-
-  pub row-behind : (s : ℕ) → rowOf n (variableLevels n order) s ≡ behind n (take n order) s
-  unfolding behind
-  row-behind s =
-      number-cong n (λ v. bit n (getD (variableLevels n order) v 0) s) (λ v. bit n (index eqb v (take n order)) s)
-      (λ v h. ap (λ p. bit n p s) (levels-index v h))
-
   -- the map, row by row
   pub map-filled : (k : ℕ) → k ≡ 2 ^ n → filled (behind n (take n order)) mostRows k ≡ rowMap n order
   unfolding rowMap

@@ -1,18 +1,14 @@
--- Sizes, and bits, rows and bytes by shifts: a bit of a number, how many rows there are, how many bytes they take, and how many stand in
--- a byte.
+-- Sizes, and rows and bytes by shifts: how many rows there are, how many bytes they take, and how many stand in a byte.
 -- Assumes nothing.
 use mathlib.Core.Path.{_≡_, refl, sym, ap, _∙_}
 use mathlib.Core.Bool.{Bool, cond}
-use Prim.Native.Nat.{ℕ, _+_, _*_, _-_, _/_, _%_, _^_, _≤_, _<_, min}
-use native.Mathlib.Nat.{lt-of-lt-of-le, min-eq-left, min-eq-right, le-of-lt, div-one}
+use Prim.Native.Nat.{ℕ, _+_, _*_, _-_, _%_, _^_, _≤_, _<_, min}
+use native.Mathlib.Nat.{lt-of-lt-of-le, min-eq-left, min-eq-right, le-of-lt}
 use native.Mathlib.Omega.{arith}
 use borrow.Author.Tests.{le-leb, lt-leb}
-use lib.Bits.{bitAnd}
 use lib.Pow.{pow-add, pow-mono, shl-lt}
-use Rattle.diagram.specs.Lists.{digit, bit}
 use Rattle.diagram.specs.Bound.{mostVariables, mostOutputs}
 use Rattle.diagram.proofs.Bits.{one-shifted}
-use Rattle.block.proofs.StreamBits.{bit-masked}
 use Rattle.table.proofs.Answers.{shifted-out}
 use Rattle.reorder.specs.Sizes.{width, widthUpTo, mostRows, partSize}
 use Rattle.reorder.proofs.Pack.{width-small, width-rows, by-width}
@@ -27,12 +23,6 @@ part-size = refl
 
 pub rows-room : (n : ℕ) → n ≤ mostVariables → 2 ^ n ≤ mostRows
 rows-room n h = omega (arith, most-rows, pow-mono {j = mostVariables} h)
-
--- past the bits of a row the last is read
-pub bit-past : (n p s : ℕ) → n ≤ p → bitAnd s 1 ≡ digit (bit n p s)
-bit-past n p s h =
-    let e : n - 1 - p ≡ 0 = omega arith in
-    ap (λ x. bitAnd x 1) (sym (div-one s) ∙ ap (λ k. s / 2 ^ k) (sym e)) ∙ bit-masked n p s
 
 -- where an output's rows begin
 

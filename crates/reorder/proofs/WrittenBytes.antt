@@ -2,12 +2,12 @@
 -- Assumes nothing.
 use mathlib.Core.Path.{_≡_, sym, ap, ap₂, _∙_}
 use mathlib.Core.List.{List, [], _∷_, _++_, map, append-assoc, map-append}
-use Prim.Native.Nat.{ℕ, suc, _+_, _<_}
+use Prim.Native.Nat.{ℕ, suc, _+_, _≤_, _<_}
 use native.Mathlib.Nat.{zero-add, add-zero}
 use native.Mathlib.Numerals.{add-one}
 use native.Mathlib.Omega.{arith}
-use lib.ListN.{length, getD, take, drop, set, length-append, take-append-drop}
-use lib.Seq.{length-take-le, drop-cons, set-at, take-at, drop-append-add, drop-drop}
+use lib.ListN.{length, getD, take, drop, set, length-append, take-append-drop, List·getD-append}
+use lib.Seq.{length-take-le, drop-cons, set-at, take-at, drop-append-add, drop-drop, getD-take}
 use Rattle.diagram.specs.Lists.{upTo}
 use Rattle.diagram.proofs.UpTo.{length-map-upTo}
 
@@ -38,6 +38,11 @@ module _ (f : ℕ → ℕ) (m : ℕ) (l : List ℕ) where
   pub from-more : (k x : ℕ) (d : List ℕ) → m + k < length l → d ≡ writtenFrom k → x ≡ f k → set d (m + k) x ≡ writtenFrom (k + 1)
   from-more k x d h c q =
       ap₂ (λ (r : List ℕ) (y : ℕ). set r (m + k) y) c q ∙ written-more (take m l) m (length-take-le m l (omega arith)) f k l h
+
+  -- what stands before byte m stays
+  pub from-below : (k j : ℕ) → j < m → m ≤ length l → getD (writtenFrom k) j 0 ≡ getD l j 0
+  from-below k j h g =
+      List·getD-append (take m l) (map f (upTo k) ++ drop (m + k) l) 0 j (omega (arith, length-take-le m l g)) ∙ getD-take m l j 0 h
 
 -- x in front, then y behind it
 pub both-written : (x y l a b : List ℕ) (w u : ℕ) → length x ≡ w → u ≡ w → a ≡ take 0 l ++ (x ++ drop (0 + w) l)
