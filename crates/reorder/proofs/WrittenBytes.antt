@@ -1,13 +1,13 @@
--- A list that is written one element at a time, from the front or from a byte on.
+-- A list that is written one element at a time, from a byte on, or in two runs at once.
 -- Assumes nothing.
-use mathlib.Core.Path.{_≡_, sym, ap, ap₂, _∙_}
+use mathlib.Core.Path.{_≡_, refl, sym, ap, ap₂, _∙_}
 use mathlib.Core.List.{List, [], _∷_, _++_, map, append-assoc, map-append}
 use Prim.Native.Nat.{ℕ, suc, _+_, _≤_, _<_}
 use native.Mathlib.Nat.{zero-add, add-zero}
 use native.Mathlib.Numerals.{add-one}
 use native.Mathlib.Omega.{arith}
-use lib.ListN.{length, getD, take, drop, set, length-append, take-append-drop, List·getD-append}
-use lib.Seq.{length-take-le, drop-cons, set-at, take-at, drop-append-add, drop-drop, getD-take}
+use lib.ListN.{length, getD, take, drop, set, length-append, length-drop, take-append-drop, List·getD-append}
+use lib.Seq.{length-take-le, drop-cons, set-at, set-append-left, take-set-lt, drop-set-lt, take-at, drop-append-add, drop-drop, getD-take}
 use Rattle.diagram.specs.Lists.{upTo}
 use Rattle.diagram.proofs.UpTo.{length-map-upTo}
 
@@ -44,12 +44,51 @@ module _ (f : ℕ → ℕ) (m : ℕ) (l : List ℕ) where
   from-below k j h g =
       List·getD-append (take m l) (map f (upTo k) ++ drop (m + k) l) 0 j (omega (arith, length-take-le m l g)) ∙ getD-take m l j 0 h
 
--- x in front, then y behind it
-pub both-written : (x y l a b : List ℕ) (w u : ℕ) → length x ≡ w → u ≡ w → a ≡ take 0 l ++ (x ++ drop (0 + w) l)
-    → b ≡ take u a ++ (y ++ drop (u + w) a) → b ≡ x ++ y ++ drop (w + w) l
-both-written x y l a b w u e q ea eb =
-    let fa : a ≡ x ++ drop w l = ea ∙ ap (λ k. x ++ drop k l) (zero-add w) in
-    let t : take u a ≡ x = rw (q, fa) (take-at x (drop w l) w e) in
-    let d : drop (u + w) a ≡ drop (w + w) l =
-    rw (q, fa, ← e) (drop-append-add x (drop (length x) l) (length x) ∙ drop-drop (length x) (length x) l) in
-    eb ∙ rw (t, d) (sym (append-assoc x y (drop (w + w) l)))
+  -- an element before byte m is written, after the others or before them
+  from-set : (k j x : ℕ) → j < m → m ≤ length l
+      → set (writtenFrom k) j x ≡ take m (set l j x) ++ (map f (upTo k) ++ drop (m + k) (set l j x))
+  from-set k j x h g =
+      set-append-left (take m l) (map f (upTo k) ++ drop (m + k) l) j x (omega (arith, length-take-le m l g))
+      ∙ ap₂ (λ (a b : List ℕ). a ++ (map f (upTo k) ++ b)) (sym (take-set-lt m l j x h)) (sym (drop-set-lt (m + k) l j x (omega arith)))
+
+  from-length : (k : ℕ) → m + k ≤ length l → length (writtenFrom k) ≡ length l
+  from-length k h =
+      length-append (take m l) (map f (upTo k) ++ drop (m + k) l)
+      ∙ omega (
+        arith,
+        length-take-le m l (omega arith),
+        length-append (map f (upTo k)) (drop (m + k) l),
+        length-map-upTo f k,
+        length-drop (m + k) l,
+      )
+
+-- two runs of w elements, one behind the other, from the front on: the first k of each
+module _ (f g : ℕ → ℕ) (w : ℕ) (l : List ℕ) where
+  abbrev pub writtenBoth : ℕ → List ℕ
+  writtenBoth k = writtenFrom g w (writtenFrom f 0 l k) k
+
+  pub both-none : l ≡ writtenBoth 0
+  both-none = from-none f 0 l ∙ from-none g w (writtenFrom f 0 l 0)
+
+  pub both-more : (k x y : ℕ) (d : List ℕ) → k < w → w + w ≤ length l → d ≡ writtenBoth k → x ≡ f k → y ≡ g k
+      → set (set d k x) (w + k) y ≡ writtenBoth (k + 1)
+  both-more k x y d h r c p q =
+      let front : List ℕ = writtenFrom f 0 l k in
+      let one : set front k x ≡ writtenFrom f 0 l (k + 1) =
+      ap (λ j. set front j x) (sym (zero-add k)) ∙ from-more f 0 l k x front (omega arith) refl p in
+      from-more g w (writtenFrom f 0 l (k + 1)) k y (set d k x) (omega (arith, from-length f 0 l (k + 1) (omega arith)))
+      (ap (λ (m : List ℕ). set m k x) c ∙ from-set g w front k k x h (omega (arith, from-length f 0 l k (omega arith)))
+      ∙ ap (λ (m : List ℕ). writtenFrom g w m k) one)
+      q
+
+  -- both runs whole
+  pub both-all : writtenBoth w ≡ map f (upTo w) ++ map g (upTo w) ++ drop (w + w) l
+  both-all =
+      let x : List ℕ = map f (upTo w) in
+      let y : List ℕ = map g (upTo w) in
+      let e : length x ≡ w = length-map-upTo f w in
+      let a : writtenFrom f 0 l w ≡ x ++ drop w l = ap (λ k. x ++ drop k l) (zero-add w) in
+      ap (λ (m : List ℕ). writtenFrom g w m w) a
+      ∙ ap₂ (λ (m n : List ℕ). m ++ (y ++ n)) (take-at x (drop w l) w e)
+      (ap (λ k. drop (k + w) (x ++ drop w l)) (sym e) ∙ drop-append-add x (drop w l) w ∙ drop-drop w w l)
+      ∙ sym (append-assoc x y (drop (w + w) l))
