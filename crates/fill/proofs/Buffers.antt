@@ -1,4 +1,5 @@
 pub mod Chunks
+pub mod ExchangedPlanes
 pub mod HeldParts
 pub mod PartLengths
 pub mod Splice

@@ -3,3 +3,5 @@ pub mod Filling
 pub mod FreeRows
 pub mod HeldFilling
 pub mod MaskedRows
+pub mod TriedCounts
+pub mod TrialAnswers

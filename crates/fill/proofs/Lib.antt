@@ -3,5 +3,6 @@ pub mod Calls
 pub mod Counting
 pub mod Descents
 pub mod Linking
+pub mod Lowered
 pub mod Parts
 pub mod Room

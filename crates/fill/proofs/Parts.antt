@@ -1,6 +1,8 @@
 pub mod BitLaws
 pub mod Blockwise
+pub mod ExchangedBytes
 pub mod MergedAgain
+pub mod PartExchange
 pub mod PartHalves
 pub mod PartMerge
 pub mod Planes

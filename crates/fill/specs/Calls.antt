@@ -2,14 +2,15 @@
 -- Assumes nothing.
 use mathlib.Core.Bool.{Bool, true, cond, not, _&&_}
 use mathlib.Core.List.{List, [], _∷_, map}
-use Prim.Native.Nat.{ℕ, zero, suc}
-use lib.Dec.{leb}
-use lib.ListN.{length, getD}
+use Prim.Native.Nat.{ℕ, zero, suc, _*_}
+use lib.Dec.{leb, eqb}
+use lib.ListN.{length, getD, take, drop}
 use Rattle.diagram.specs.Lists.{upTo}
 use Rattle.diagram.specs.Bound.{mostVariables}
 use Rattle.diagram.specs.Tree.{Tree}
 use Rattle.diagram.specs.Fill.{Row, level, candidates, trace}
 use Rattle.diagram.specs.Network.{counts}
+use Rattle.diagram.specs.Order.{moved}
 use Rattle.diagram.specs.Table.{Table, reordered, filled, cost}
 use Rattle.table.specs.declared.Answer.{Answer}
 use Rattle.table.specs.declared.Answer.the-variants.{Done, ShortBuffer, NoTable}
@@ -19,7 +20,8 @@ use Rattle.table.specs.Stream.{tableOf}
 use Rattle.table.specs.State.{orderOf, stageOf, isNothing}
 use Rattle.table.specs.Calls.{planeSize}
 use Rattle.fill.specs.declared.Levels.{Levels}
-use Rattle.fill.specs.Work.{workSize, traceWork, zeroWork}
+use Rattle.fill.specs.Work.{workSize, traceWork, trialsZero, zeroWork}
+use Rattle.fill.specs.inner.Splice.{splice}
 
 -- the table in the lent bytes
 abbrev pub heldTable : State → List ℕ → List ℕ → Table
@@ -68,3 +70,39 @@ levelsOf s values care work =
 unfoldable pub linksWork : State → List ℕ → List ℕ → List ℕ → List ℕ
 linksWork s values care work =
     cond (done (countAnswer s values care work)) (traceWork (trace true (s .n) (drawnOutputs s values care)) work) work
+
+-- how many counts trials give: one for each level, with a variable at each level
+unfoldable pub countsSize : ℕ
+countsSize = mostVariables * mostVariables
+
+-- in lent counts, those of the levels with a variable at level p
+abbrev pub countsOf : ℕ → List ℕ → List ℕ
+countsOf p cs = take mostVariables (drop (mostVariables * p) cs)
+
+-- the cells of each level under the state's order with its top variable moved to level p, the others in sequence: filled afresh
+abbrev pub trialCounts : State → List ℕ → List ℕ → ℕ → List ℕ
+trialCounts s values care p =
+    perLevel (counts true (s .n) (filled true (heldTable s values care) (moved (getD (orderOf s) 0 0) p (orderOf s))))
+
+-- lent counts after the trials of the levels below k: those of level p stand from mostVariables * p on; a level `except` is not tried, and
+-- its counts are as found
+unfoldable pub triedCounts : State → ℕ → List ℕ → List ℕ → List ℕ → ℕ → List ℕ
+triedCounts s except values care found zero = found
+triedCounts s except values care found (suc k) =
+    cond (eqb k except) (triedCounts s except values care found k)
+    (splice (triedCounts s except values care found k) (mostVariables * k) (trialCounts s values care k))
+
+-- trials: 10, of the lent counts too, then 21; the levels that the variable can stand at
+unfoldable pub trialsAnswer : State → List ℕ → List ℕ → List ℕ → List ℕ → Answer
+trialsAnswer s values care found work =
+    unless (enough values care work && leb countsSize (length found)) ShortBuffer
+    (unless (not (isNothing (stageOf s))) NoTable (Done (s .n)))
+
+-- the counts after all trials, as found after a refusal
+unfoldable pub trialsCounts : State → ℕ → List ℕ → List ℕ → List ℕ → List ℕ → List ℕ
+trialsCounts s except values care found work =
+    cond (done (trialsAnswer s values care found work)) (triedCounts s except values care found (s .n)) found
+
+-- what the trials use of the work buffer is zero after them, as found after a refusal
+unfoldable pub trialsWork : State → List ℕ → List ℕ → List ℕ → List ℕ → List ℕ
+trialsWork s values care found work = cond (done (trialsAnswer s values care found work)) (trialsZero work) work

@@ -38,6 +38,14 @@ traceWork kss work =
     replicate linksAt 0
     ++ (linkBytes (allLinks kss) ++ (replicate (workSize - linksAt - length (linkBytes (allLinks kss))) 0 ++ drop workSize work))
 
+-- the bytes that trials use: two regions that are kept, two on the way down, and one for the links of a level
+unfoldable pub trialsSize : ℕ
+trialsSize = 5 * regionSize
+
+-- a work buffer in which these are zero; what lies behind them is as it was
+unfoldable pub trialsZero : List ℕ → List ℕ
+trialsZero work = replicate trialsSize 0 ++ drop trialsSize work
+
 -- a work buffer that is zero; what lies past its size is as it was
 unfoldable pub zeroWork : List ℕ → List ℕ
 zeroWork work = replicate workSize 0 ++ drop workSize work

@@ -6,3 +6,6 @@ pub mod Level
 pub mod Descent
 pub mod Counts
 pub mod Filling
+pub mod Words
+pub mod Exchange
+pub mod Lowering

@@ -4,14 +4,17 @@ mod cells;
 mod copy;
 mod descent;
 mod entries;
+mod exchange;
 mod filling;
 mod halves;
 mod level;
 mod link;
+mod lowering;
 mod outputs;
 mod part;
 
 use crate::filling::fill_held;
+use crate::lowering::try_held;
 use crate::outputs::zero;
 use diagram::VARIABLES;
 use table::Answer;
@@ -21,6 +24,7 @@ use table::valid::holds_table;
 ghost use mathlib.Core.Path.{_≡_};
 ghost use Rattle.fill.specs.Work.{clearedWork};
 ghost use Rattle.fill.specs.Calls.{countAnswer, countWork, levelsOf, linksWork};
+ghost use Rattle.fill.specs.Calls.{trialsAnswer, trialsCounts, trialsWork};
 ghost use Rattle.fill.specs.inner.Filling.{refusedLevels};
 
 // The bytes of a region for one level's entries, where the links begin behind two regions, and the bytes of the work buffer;
@@ -30,6 +34,12 @@ const REGION: usize = 4096;
 pub const LINKS: usize = 2 * REGION;
 
 pub const WORK: usize = 32768;
+
+// The bytes of the work buffer that trials use, and how many counts they give: one for each level, with a variable at each level;
+// specs/Work.antt and specs/Calls.antt have the definitions, `trialsSize` and `countsSize`.
+const TRIALS: usize = 5 * REGION;
+
+pub const COUNTS: usize = VARIABLES * VARIABLES;
 
 // What a filling answers: the cells in all, and the entries and the cells of each level.
 pub struct Levels {
@@ -100,4 +110,42 @@ pub fn count(state: State, values: &[u8], care: &[u8], work: &mut [u8]) -> Answe
 {
     let levels = counts(state, values, care, work);
     levels.answer
+}
+
+// Counts the cells of each level with the top variable of the state's order at each level in turn, the others in sequence: those with the
+// variable at level p go to the lent counts from VARIABLES * p on. A level `except` is left out, and its counts are as found. Answers how
+// many levels there are. Refuses with 10, then 21; a refusal leaves the lent buffers, a success zeros what it used of the work buffer.
+pub fn trials(
+    state: State,
+    except: usize,
+    values: &[u8],
+    care: &[u8],
+    counts: &mut [usize],
+    work: &mut [u8],
+) -> Answer
+    ensures answer { λ r. ⌜ r
+        ≡ trialsAnswer state (now (values .entry)) (now (care .entry)) (now (counts .entry)) (now (work .entry)) ⌝ }
+    ensures counts { λ _. ⌜ now (counts .exit)
+        ≡ trialsCounts state except (now (values .entry)) (now (care .entry)) (now (counts .entry)) (now (work .entry)) ⌝ }
+    ensures work { λ _. ⌜ now (work .exit)
+        ≡ trialsWork state (now (values .entry)) (now (care .entry)) (now (counts .entry)) (now (work .entry)) ⌝ }
+{
+    if values.len() < PLANE {
+        return Answer::ShortBuffer;
+    }
+    if care.len() < PLANE {
+        return Answer::ShortBuffer;
+    }
+    if work.len() < WORK {
+        return Answer::ShortBuffer;
+    }
+    if counts.len() < COUNTS {
+        return Answer::ShortBuffer;
+    }
+    if !holds_table(state) {
+        return Answer::NoTable;
+    }
+    try_held(state, except, values, care, counts, work);
+    zero(0, TRIALS, work);
+    Answer::Done(state.n)
 }

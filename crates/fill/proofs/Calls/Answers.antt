@@ -21,6 +21,23 @@ use Rattle.fill.specs.inner.Filling.{filledWork, filledLevels, refusedLe
 use Rattle.fill.proofs.Buffers.Sizes.{sizes}
 use Rattle.fill.proofs.Calls.HeldFilling.{filled-past}
 
+-- whether the buffers have their sizes
+module _ (values care work : List ℕ) where
+  pub few-values : length values < planeSize → enough values care work ≡ false
+  few-values h = rw (lt-leb planeSize (length values) h)
+
+  pub few-care : length care < planeSize → enough values care work ≡ false
+  few-care h = rw (lt-leb planeSize (length care) h) (and-false (leb planeSize (length values)))
+
+  pub few-work : length work < workSize → enough values care work ≡ false
+  few-work h =
+      rw (lt-leb workSize (length work) h)
+      (ap (λ (b : Bool). leb planeSize (length values) && b) (and-false (leb planeSize (length care))) ∙ and-false
+      (leb planeSize (length values)))
+
+  pub is-enough : planeSize ≤ length values → planeSize ≤ length care → workSize ≤ length work → enough values care work ≡ true
+  is-enough v c w = rw (le-leb planeSize (length values) v, le-leb planeSize (length care) c, le-leb workSize (length work) w)
+
 module _ (s : State) (values care work : List ℕ) where
   -- the answer
 
@@ -29,29 +46,22 @@ module _ (s : State) (values care work : List ℕ) where
   not-enough e = rw e
 
   pub short-values : length values < planeSize → countAnswer s values care work ≡ ShortBuffer
-  short-values h = not-enough (rw (lt-leb planeSize (length values) h))
+  short-values h = not-enough (few-values values care work h)
 
   pub short-care : length care < planeSize → countAnswer s values care work ≡ ShortBuffer
-  short-care h = not-enough (rw (lt-leb planeSize (length care) h) (and-false (leb planeSize (length values))))
+  short-care h = not-enough (few-care values care work h)
 
   pub short-work : length work < workSize → countAnswer s values care work ≡ ShortBuffer
-  short-work h =
-      not-enough
-      (rw (lt-leb workSize (length work) h)
-      (ap (λ (b : Bool). leb planeSize (length values) && b) (and-false (leb planeSize (length care))) ∙ and-false
-      (leb planeSize (length values))))
+  short-work h = not-enough (few-work values care work h)
 
   module _ (v : planeSize ≤ length values) (c : planeSize ≤ length care) (w : workSize ≤ length work) where
-    is-enough : enough values care work ≡ true
-    is-enough = rw (le-leb planeSize (length values) v, le-leb planeSize (length care) c, le-leb workSize (length work) w)
-
     pub no-table : not (isNothing (stageOf s)) ≡ false → countAnswer s values care work ≡ NoTable
     unfolding countAnswer
-    no-table e = rw (is-enough, e)
+    no-table e = rw (is-enough values care work v c w, e)
 
     pub counted : not (isNothing (stageOf s)) ≡ true → countAnswer s values care work ≡ Done (cost (heldTable s values care) (orderOf s))
     unfolding countAnswer
-    counted e = rw (is-enough, e)
+    counted e = rw (is-enough values care work v c w, e)
 
     -- a held table is filled
     pub links-filled : not (isNothing (stageOf s)) ≡ true

@@ -47,7 +47,7 @@ use Rattle.fill.proofs.Room.RegionRoom.{Rows, roomy-filled}
 use Rattle.fill.proofs.Room.LinksRoom.{linksLimit, links-room}
 
 -- the cells of each level, by the links below level 0
-counts-traced : (n : ℕ) (fs : List (Tree Row n)) → counts true n (fill true n fs) ≡ map differing (linksBelow n (partsOf fs))
+pub counts-traced : (n : ℕ) (fs : List (Tree Row n)) → counts true n (fill true n fs) ≡ map differing (linksBelow n (partsOf fs))
 unfolding tracedCounts
 counts-traced n fs = sym (traced-counts true n fs) ∙ ap tracedCounts (trace-bytes n fs)
 
@@ -59,7 +59,7 @@ outputs-encode n m values care order rows small e =
     (λ j h. gathered-encode n order small m values care rows j e)
     ∙ sym (map-map encode (reordered (tableOf n m values care) (take n order)) (upTo m))
 
-long-encode : {d : ℕ} (ts : List (Tree Row d)) → Long (width d + width d) (map encode ts)
+pub long-encode : {d : ℕ} (ts : List (Tree Row d)) → Long (width d + width d) (map encode ts)
 long-encode [] = tt
 long-encode (t ∷ ts) = (encode-length t, long-encode ts)
 

@@ -30,7 +30,7 @@ module _ (s : State) (values care : List ℕ) (held : T (not (isNothing (stageOf
   outputs : length (drawnOutputs s values care) ≡ s .m
   outputs = length-map-upTo (reordered (heldTable s values care) (orderOf s)) (s .m)
 
-  few : length (drawnOutputs s values care) ≤ mostOutputs
+  pub few : length (drawnOutputs s values care) ≤ mostOutputs
   few = omega (sizes, outputs, few-outputs s held)
 
   -- what lies past the work buffer's size is as it was

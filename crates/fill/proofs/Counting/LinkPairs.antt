@@ -153,11 +153,11 @@ end-none : (at : ℕ) (parts : List (List ℕ)) → linksEnd at (countsBelow zer
 unfolding countsBelow linksBelow
 end-none at parts = omega arith
 
-two-wide : (d : ℕ) → 2 ≤ width d + width d
+pub two-wide : (d : ℕ) → 2 ≤ width d + width d
 two-wide d = omega (arith, width-pos d)
 
 -- all levels: the links of each are under 65,536, since its entries fit a region
-below-under : (d : ℕ) (parts : List (List ℕ)) → Long (width (suc d) + width (suc d)) parts → Room d parts
+pub below-under : (d : ℕ) (parts : List (List ℕ)) → Long (width (suc d) + width (suc d)) parts → Room d parts
     → Under 65536 (levelBelow d parts .links)
 below-under d parts h r =
     let f = level-fits d parts h r in

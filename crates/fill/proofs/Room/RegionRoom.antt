@@ -29,7 +29,7 @@ use Rattle.fill.proofs.Descents.TreeDescent.{entriesOf, partsOf, below-
 abbrev pub Rows : {d : ℕ} → List (Tree Row d) → Type 0
 Rows {d} fs = length fs * 2 ^ d ≤ mostOutputs * 2 ^ mostVariables
 
-entry-rows : {d : ℕ} (fs : List (Tree Row d)) → Rows fs → length (entriesOf fs) * 2 ^ d ≤ mostOutputs * 2 ^ mostVariables
+pub entry-rows : {d : ℕ} (fs : List (Tree Row d)) → Rows fs → length (entriesOf fs) * 2 ^ d ≤ mostOutputs * 2 ^ mostVariables
 entry-rows {d} fs h = le-trans (mul-le-mul-right (2 ^ d) (entries-candidates true fs)) h
 
 -- the candidates of the next level have no more rows

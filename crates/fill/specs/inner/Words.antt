@@ -1,0 +1,17 @@
+-- Up to eight bytes as one number, the first byte the lowest: the rows of a narrow part, or eight bytes of a wide one.
+-- Assumes nothing.
+use mathlib.Core.List.{List, [], _∷_}
+use Prim.Native.Nat.{ℕ, zero, suc, _+_, _*_, _/_, _%_}
+
+-- the bytes of a word
+abbrev pub wordSize : ℕ
+wordSize = 8
+
+abbrev pub wordOf : List ℕ → ℕ
+wordOf [] = 0
+wordOf (b ∷ bs) = b + 256 * wordOf bs
+
+-- the w lowest bytes of a number
+abbrev pub bytesOf : ℕ → ℕ → List ℕ
+bytesOf zero x = []
+bytesOf (suc w) x = x % 256 ∷ bytesOf w (x / 256)
