@@ -1,8 +1,10 @@
 pub mod MovedEntries
 pub mod ReorderedHeading
 pub mod CountSucceeds
-pub mod WorkZeroed
+pub mod LentCounts
+pub mod MovedCounts
 pub mod BestLevel
+pub mod SiftedCounts
 pub mod SiftOutcome
 pub mod StaysPut
 pub mod LeadingVariable

@@ -19,9 +19,9 @@ use Rattle.diagram.proofs.Lists.{eqb-equality, has-here, keep-has}
 use Rattle.diagram.proofs.Numbers.{upTo-lt}
 use Rattle.diagram.proofs.Order.{index-below}
 use Rattle.diagram.proofs.Most.{most-has}
-use Rattle.fill.specs.Calls.{perLevel}
 use Rattle.fill.proofs.Counting.PerLevel.{per-level-at}
 use Rattle.sift.specs.inner.Choice.{nodesAt, unmarked, nextOf}
+use Rattle.sift.specs.inner.Counts.{countsUnder}
 
 -- two numberings that agree on a list have the same first with the most
 
@@ -51,16 +51,16 @@ next-below t order sifted h = most-below (nodesOf t order) (t .n) (unmarked (t .
 
 -- by the nodes of each level
 module _ (t : Table) (order : List ℕ) (sifted : List Bool) (o : T (isOrder (t .n) order)) (k : t .n ≤ mostVariables) where
-  nodes-ten : (v : ℕ) → v < t .n → nodesAt (perLevel (counts true (t .n) (filled true t order))) order v ≡ nodesOf t order v
-  unfolding nodesOf
+  nodes-ten : (v : ℕ) → v < t .n → nodesAt (countsUnder t order) order v ≡ nodesOf t order v
+  unfolding nodesOf countsUnder
   nodes-ten v h =
       per-level-at (counts true (t .n) (filled true t order)) (index eqb v order)
       (omega (arith, index-below (t .n) order o v h))
 
-  pub next-counted : (cs : List ℕ) → cs ≡ perLevel (counts true (t .n) (filled true t order))
+  pub next-counted : (cs : List ℕ) → cs ≡ countsUnder t order
       → most (nodesAt cs order) (unmarked (t .n) sifted) ≡ nextOf t order sifted
   unfolding nextOf
   next-counted cs e =
       ap (λ (l : List ℕ). most (nodesAt l order) (unmarked (t .n) sifted)) e
-      ∙ most-cong (nodesAt (perLevel (counts true (t .n) (filled true t order))) order) (nodesOf t order) (unmarked (t .n) sifted)
+      ∙ most-cong (nodesAt (countsUnder t order) order) (nodesOf t order) (unmarked (t .n) sifted)
       (λ w h. nodes-ten w (unmarked-below (t .n) sifted w h))

@@ -81,8 +81,8 @@ module _ (s : State) (limit : ℕ) (values care work : List ℕ) where
     pass-whole = (rw (e, h), (rw (e, h), λ _. demand))
 
     -- as the pass was held at its end
-    pub pass-held : (p : Progress) → p ≡ progressOf s (passOf s limit values care) → (left : State) → left ≡ reorderedState s (p .order)
-        → (after : List ℕ) → after ≡ zeroWork work
+    pub pass-held : (p : Progress) → p ≡ progressOf s values care (passOf s limit values care) → (left : State)
+        → left ≡ reorderedState s (p .order) → (after : List ℕ) → after ≡ zeroWork work
         → Passes s limit values care work (record { answer = Done (p .tried); state = left }) after
     unfolding passedOutcome progressOf
     pass-held p d left t after z =

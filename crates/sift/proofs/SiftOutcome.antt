@@ -24,6 +24,7 @@ use Rattle.sift.specs.declared.trials.Best.{Best}
 use Rattle.sift.specs.inner.Trials.{bestOf}
 use Rattle.sift.specs.Calls.{siftedOrder, siftAnswer, siftOutcome, siftWork, SiftDemand, withOrder}
 use Rattle.sift.proofs.ReorderedHeading.{take-order}
+use Rattle.sift.proofs.SiftedCounts.{best-sifts}
 
 -- an outcome and a work buffer are those of a sift
 abbrev pub Sifts : State → ℕ → List ℕ → List ℕ → List ℕ → Outcome → List ℕ → Type 0
@@ -73,10 +74,6 @@ module _ (s : State) (v : ℕ) (values care work : List ℕ) where
 
       -- as the best level was found, and the order made with v there
       module _ (b : Best) (d : b ≡ bestOf (heldTable s values care) v (orderOf s)) where
-        best-order : moved v (b .level) (orderOf s) ≡ siftedOrder s v values care
-        unfolding sift bestOf
-        best-order = ap (λ (x : Best). moved v (x .level) (orderOf s)) d
-
         best-cost : b .cost ≡ cost (heldTable s values care) (siftedOrder s v values care)
         unfolding sift bestOf
         best-cost = ap (λ (x : Best). x .cost) d
@@ -87,7 +84,9 @@ module _ (s : State) (v : ℕ) (values care work : List ℕ) where
         unfolding siftedOutcome
         sift-done order o left t after z =
             let q : left ≡ withOrder s (siftedOrder s v values care) =
-            t ∙ ap (reorderedState s) (o ∙ ap (λ (xs : List ℕ). xs ++ drop (s .n) (s .order)) best-order) in
+            t
+            ∙ ap (reorderedState s)
+            (o ∙ ap (λ (xs : List ℕ). xs ++ drop (s .n) (s .order)) (best-sifts (heldTable s values care) v (orderOf s) b d)) in
             let same : record { answer = Done (b .cost); state = left } ≡ siftedOutcome =
             λ i. record { answer = Done (best-cost i); state = q i } in
             subst (λ (r : Outcome). Sifts s v values care work r after) (sym same)

@@ -1,7 +1,5 @@
 // The variable that a pass sifts next: the unsifted one with the most nodes, the lowest on ties (document 01, section 5).
-use crate::trials::reorder;
 use diagram::VARIABLES;
-use table::State;
 use table::order::level_of;
 ghost use mathlib.Core.Path.{_≡_};
 ghost use Prim.Native.Nat.{_≤_};
@@ -10,10 +8,7 @@ ghost use lib.ListN.{take};
 ghost use Rattle.diagram.specs.Bound.{mostVariables};
 ghost use Rattle.diagram.specs.Order.{isOrder};
 ghost use Rattle.diagram.specs.Sift.{most};
-ghost use Rattle.table.specs.State.{goodHeading};
-ghost use Rattle.fill.specs.Work.{zeroWork};
-ghost use Rattle.fill.specs.Calls.{heldTable, enough};
-ghost use Rattle.sift.specs.inner.Choice.{overtaken, nodesAt, unmarked, nextOf};
+ghost use Rattle.sift.specs.inner.Choice.{overtaken, nodesAt, unmarked};
 
 // A variable, and its nodes.
 pub(crate) struct Lead {
@@ -36,7 +31,7 @@ fn overtake(lead: Lead, v: usize, nodes: usize, marked: bool) -> Lead
 
 // The unsifted variable with the most nodes, by the nodes of each level. It goes from the highest number down, so that on ties
 // the lowest is left.
-fn fullest(
+pub(crate) fn fullest(
     counts: [usize; VARIABLES],
     order: [usize; VARIABLES],
     sifted: [bool; VARIABLES],
@@ -59,24 +54,4 @@ fn fullest(
         lead = overtake(lead, v, nodes, marked);
     }
     lead.variable
-}
-
-// The variable that comes next under an order.
-pub(crate) fn next_variable(
-    state: State,
-    order: [usize; VARIABLES],
-    sifted: [bool; VARIABLES],
-    values: &[u8],
-    care: &[u8],
-    work: &mut [u8],
-) -> usize
-    requires { ⌜ T (enough (now values) (now care) (now work)) ⌝ }
-    requires { ⌜ T (goodHeading (state .n) (state .m) (take (state .n) order)) ⌝ }
-    ensures variable { λ r. ⌜ r ≡ nextOf (heldTable state (now (values .entry)) (now (care .entry))) (take (state .n) order) sifted ⌝ }
-    ensures work { λ _. ⌜ now (work .exit) ≡ zeroWork (now (work .entry)) ⌝ }
-{
-    let current = reorder(state, order);
-    let levels = fill::counts(current, values, care, work);
-    let counts = levels.counts;
-    fullest(counts, order, sifted, state.n)
 }

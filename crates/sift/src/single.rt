@@ -1,8 +1,8 @@
 // The sift of a single variable (document 01, section 5).
 use crate::order::moved_to;
 use crate::room::has_room;
-use crate::trials::best_level;
 use crate::trials::reorder;
+use crate::trials::sift_one;
 use table::Answer;
 use table::Outcome;
 use table::State;
@@ -37,7 +37,10 @@ pub fn sift(state: State, variable: usize, values: &[u8], care: &[u8], work: &mu
             state,
         };
     }
-    let best = best_level(state, variable, values, care, work);
+    let levels = fill::counts(state, values, care, work);
+    let known = levels.counts;
+    let found = sift_one(state, variable, known, values, care, work);
+    let best = found.best;
     let order = state.order;
     let after = moved_to(order, n, variable, best.level);
     let left = reorder(state, after);

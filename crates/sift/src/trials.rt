@@ -1,26 +1,36 @@
 // Trying an order means filling and counting under it; trying a variable at every level, from the top down, finds the best of them
 // (document 01, section 5; ties as in document 02, 2.3).
+use crate::counts::counts_of;
+use crate::counts::put_counts;
+use crate::counts::total_of;
 use crate::order::moved_to;
 use diagram::VARIABLES;
-use table::Answer;
+use fill::COUNTS;
 use table::Stage;
 use table::State;
+use table::order::level_of;
 ghost use mathlib.Core.Path.{_≡_};
-ghost use Prim.Native.Nat.{_<_};
+ghost use Prim.Native.Nat.{_≤_, _<_};
 ghost use lib.Dec.{T};
-ghost use lib.ListN.{take};
+ghost use lib.ListN.{length};
 ghost use Rattle.diagram.specs.Bound.{mostVariables};
-ghost use Rattle.diagram.specs.Table.{cost};
 ghost use Rattle.table.specs.State.{goodHeading, orderOf, reorderedState};
-ghost use Rattle.fill.specs.Work.{zeroWork};
-ghost use Rattle.fill.specs.Calls.{heldTable, enough};
-ghost use Rattle.sift.specs.inner.Trials.{costAt, isPresent, taken, bestWith, bestOf};
+ghost use Rattle.fill.specs.Work.{trialsZero};
+ghost use Rattle.fill.specs.Calls.{heldTable, enough, countsSize};
+ghost use Rattle.sift.specs.inner.Counts.{countsUnder, MovedCounts};
+ghost use Rattle.sift.specs.inner.Trials.{taken, bestWith, bestOf, siftedOf};
 
 // The best level for a variable so far, the nodes with the variable there, and how many orders were tried to find it.
 pub(crate) struct Best {
     pub level: usize,
     pub cost: usize,
     pub tried: usize,
+}
+
+// The best level, and the nodes of each level with the variable there.
+pub(crate) struct Sifted {
+    pub best: Best,
+    pub counts: [usize; VARIABLES],
 }
 
 // The state with another order: its table, and no network.
@@ -34,40 +44,6 @@ pub(crate) fn reorder(state: State, order: [usize; VARIABLES]) -> State
         count: 0,
         stage: Stage::Table,
     }
-}
-
-// Tries an order.
-fn cost_of(
-    state: State,
-    order: [usize; VARIABLES],
-    values: &[u8],
-    care: &[u8],
-    work: &mut [u8],
-) -> usize
-    requires { ⌜ T (enough (now values) (now care) (now work)) ⌝ }
-    requires { ⌜ T (goodHeading (state .n) (state .m) (take (state .n) order)) ⌝ }
-    ensures cost { λ r. ⌜ r ≡ cost (heldTable state (now (values .entry)) (now (care .entry))) (take (state .n) order) ⌝ }
-    ensures work { λ _. ⌜ now (work .exit) ≡ zeroWork (now (work .entry)) ⌝ }
-{
-    let tried = reorder(state, order);
-    let answer = fill::count(tried, values, care, work);
-    let Answer::Done(nodes) = answer else {
-        return 0;
-    };
-    nodes
-}
-
-// Tries the state's order with v moved to level p.
-fn trial(state: State, v: usize, p: usize, values: &[u8], care: &[u8], work: &mut [u8]) -> usize
-    requires { ⌜ T (enough (now values) (now care) (now work)) ⌝ }
-    requires { ⌜ T (goodHeading (state .n) (state .m) (orderOf state)) ⌝ }
-    requires { ⌜ (v < state .n) × (p < state .n) ⌝ }
-    ensures cost { λ r. ⌜ r ≡ costAt (heldTable state (now (values .entry)) (now (care .entry))) v (orderOf state) p ⌝ }
-    ensures work { λ _. ⌜ now (work .exit) ≡ zeroWork (now (work .entry)) ⌝ }
-{
-    let order = state.order;
-    let after = moved_to(order, state.n, v, p);
-    cost_of(state, after, values, care, work)
 }
 
 // Whether a level with so many nodes is taken: where none was tried before it, where it has fewer than the best, or as many and
@@ -84,27 +60,11 @@ fn is_taken(best: Best, nodes: usize, present: bool) -> bool
     nodes < best.cost
 }
 
-// Tries v at level p, counts the trial, and takes the level or leaves the best as it was.
-fn try_level(
-    state: State,
-    v: usize,
-    p: usize,
-    best: Best,
-    values: &[u8],
-    care: &[u8],
-    work: &mut [u8],
-) -> Best
-    requires { ⌜ T (enough (now values) (now care) (now work)) ⌝ }
-    requires { ⌜ T (goodHeading (state .n) (state .m) (orderOf state)) ⌝ }
-    requires { ⌜ (v < state .n) × ((p < state .n) × (best .tried < mostVariables)) ⌝ }
-    ensures best { λ r.
-        ⌜ r ≡ bestWith best p (costAt (heldTable state (now (values .entry)) (now (care .entry))) v (orderOf state) p)
-        (isPresent v (orderOf state) p) ⌝ }
-    ensures work { λ _. ⌜ now (work .exit) ≡ zeroWork (now (work .entry)) ⌝ }
+// Counts a trial of level p with so many nodes, and takes the level or leaves the best as it was.
+fn try_level(best: Best, p: usize, nodes: usize, present: bool) -> Best
+    requires { ⌜ best .tried < mostVariables ⌝ }
+    ensures { λ r. ⌜ r ≡ bestWith best p nodes present ⌝ }
 {
-    let nodes = trial(state, v, p, values, care, work);
-    let order = state.order;
-    let present = order[p] == v;
     let tried = best.tried + 1;
     if is_taken(best, nodes, present) {
         return Best {
@@ -120,30 +80,86 @@ fn try_level(
     }
 }
 
-// Tries v at every level from the top down. Of those with the fewest nodes it takes the one where v stands, or else the topmost.
-pub(crate) fn best_level(
+// Counts the nodes of each level with v at each level in turn, but where v stands: there they are known.
+fn count_levels(
     state: State,
     v: usize,
+    known: [usize; VARIABLES],
     values: &[u8],
     care: &[u8],
+    counts: &mut [usize],
+    work: &mut [u8],
+)
+    requires { ⌜ T (enough (now values) (now care) (now work)) ⌝ }
+    requires { ⌜ T (goodHeading (state .n) (state .m) (orderOf state)) ⌝ }
+    requires { ⌜ (v < state .n) × (countsSize ≤ length (now counts)) ⌝ }
+    requires { ⌜ known ≡ countsUnder (heldTable state (now values) (now care)) (orderOf state) ⌝ }
+    ensures counts { λ _.
+        ⌜ MovedCounts (heldTable state (now (values .entry)) (now (care .entry))) v (orderOf state) (now (counts .exit)) ⌝ }
+    ensures work { λ _. ⌜ now (work .exit) ≡ trialsZero (now (work .entry)) ⌝ }
+{
+    let n = state.n;
+    let order = state.order;
+    let q = level_of(order, n, v);
+    put_counts(counts, q, known);
+    let top = moved_to(order, n, v, 0);
+    let current = reorder(state, top);
+    fill::trials(current, q, values, care, counts, work);
+}
+
+// Tries v at every level from the top down. Of those with the fewest nodes it takes the one where v stands, or else the topmost.
+fn best_level(
+    state: State,
+    v: usize,
+    known: [usize; VARIABLES],
+    values: &[u8],
+    care: &[u8],
+    counts: &mut [usize],
     work: &mut [u8],
 ) -> Best
     requires { ⌜ T (enough (now values) (now care) (now work)) ⌝ }
     requires { ⌜ T (goodHeading (state .n) (state .m) (orderOf state)) ⌝ }
-    requires { ⌜ v < state .n ⌝ }
+    requires { ⌜ (v < state .n) × (countsSize ≤ length (now counts)) ⌝ }
+    requires { ⌜ known ≡ countsUnder (heldTable state (now values) (now care)) (orderOf state) ⌝ }
     ensures best { λ r. ⌜ r ≡ bestOf (heldTable state (now (values .entry)) (now (care .entry))) v (orderOf state) ⌝ }
-    ensures work { λ _. ⌜ now (work .exit) ≡ zeroWork (now (work .entry)) ⌝ }
+    ensures counts { λ _.
+        ⌜ MovedCounts (heldTable state (now (values .entry)) (now (care .entry))) v (orderOf state) (now (counts .exit)) ⌝ }
+    ensures work { λ _. ⌜ now (work .exit) ≡ trialsZero (now (work .entry)) ⌝ }
 {
-    let n = state.n;
+    count_levels(state, v, known, values, care, counts, work);
+    let order = state.order;
     let mut best = Best {
         level: 0,
         cost: 0,
         tried: 0,
     };
     let mut p: usize = 0;
-    while p < n {
-        best = try_level(state, v, p, best, values, care, work);
+    while p < state.n {
+        let nodes = total_of(counts, p);
+        best = try_level(best, p, nodes, order[p] == v);
         p += 1;
     }
     best
+}
+
+// The best level for v, by the known counts of the state's order, and the counts with v there.
+pub(crate) fn sift_one(
+    state: State,
+    v: usize,
+    known: [usize; VARIABLES],
+    values: &[u8],
+    care: &[u8],
+    work: &mut [u8],
+) -> Sifted
+    requires { ⌜ T (enough (now values) (now care) (now work)) ⌝ }
+    requires { ⌜ T (goodHeading (state .n) (state .m) (orderOf state)) ⌝ }
+    requires { ⌜ v < state .n ⌝ }
+    requires { ⌜ known ≡ countsUnder (heldTable state (now values) (now care)) (orderOf state) ⌝ }
+    ensures sifted { λ r. ⌜ r ≡ siftedOf (heldTable state (now (values .entry)) (now (care .entry))) v (orderOf state) ⌝ }
+    ensures work { λ _. ⌜ now (work .exit) ≡ trialsZero (now (work .entry)) ⌝ }
+{
+    let mut counts = [0usize; COUNTS];
+    let best = best_level(state, v, known, values, care, &mut counts, work);
+    let left = counts_of(&counts, best.level);
+    Sifted { best, counts: left }
 }

@@ -7,8 +7,10 @@ use lib.Dec.{eqb, ltb}
 use Rattle.diagram.specs.Lists.{index}
 use Rattle.diagram.specs.Order.{moved}
 use Rattle.diagram.specs.Table.{Table, cost}
-use Rattle.diagram.specs.Sift.{chosen}
+use Rattle.diagram.specs.Sift.{chosen, sift}
 use Rattle.sift.specs.declared.trials.Best.{Best}
+use Rattle.sift.specs.declared.trials.Sifted.{Sifted}
+use Rattle.sift.specs.inner.Counts.{countsUnder}
 
 -- the cost of the order with v moved to level p
 abbrev pub costAt : Table → ℕ → List ℕ → ℕ → ℕ
@@ -33,3 +35,7 @@ bestWith b p nodes present =
 unfoldable pub bestOf : Table → ℕ → List ℕ → Best
 bestOf t v order =
     record { level = chosen t v order (t .n); cost = costAt t v order (chosen t v order (t .n)); tried = t .n }
+
+-- the same, with the nodes of each level under the order that sifting v leaves
+unfoldable pub siftedOf : Table → ℕ → List ℕ → Sifted
+siftedOf t v order = record { best = bestOf t v order; counts = countsUnder t (sift t v order) }

@@ -15,7 +15,6 @@ use Rattle.sift.proofs.passes.run.Reads as run-reads
 use Rattle.sift.proofs.room.has_room.Reads as has-room-reads
 use Rattle.sift.proofs.trials.reorder.Reads as reorder-reads
 use Rattle.table.proofs.valid.holds_table.Reads as holds-table-reads
-use Rattle.table.proofs.Held.{held-heading}
 
 has-room-requires : tie.Need-has-room-requires
 has-room-requires c κs = search needs
@@ -46,7 +45,7 @@ run-requires c κs =
     let s = c .before .before .before .before .before .before .before .before in
     let m = c .before .before .before .before .has-room in
     let h = c .before .before .holds-table in
-    let held = held-heading (s .args .state) (to-T (sym (h .ensures) ∙ not-false (h .result) (c .before .if2 .left))) in (
+    let held = to-T (sym (h .ensures) ∙ not-false (h .result) (c .before .if2 .left)) in (
       to-T (sym (m .ensures) ∙ not-false (m .result) (c .before .before .before .if1 .left)),
       (held, omega (arith, s .fits .limit)),
     )

@@ -1,24 +1,23 @@
 -- `sift::single::sift` meets its contract. Each refusal by its test, and the outcome by the best level found.
 -- Assumes nothing.
 use borrow.Author.Needs.{needs}
-use mathlib.Core.Path.{sym, _∙_}
+use mathlib.Core.Path.{sym, ap, _∙_}
+use mathlib.Core.Bool.{not}
+use Prim.Native.Nat.{_<_}
 use borrow.Author.Tests.{not-true, not-false}
 use denote.Ref.{now}
-use Rattle.diagram.proofs.Bools.{to-T}
-use Rattle.table.specs.State.{orderOf}
-use Rattle.fill.specs.Calls.{heldTable}
+use lib.Dec.{T}
+use Rattle.diagram.proofs.Bools.{of-T, to-T}
+use Rattle.table.specs.State.{orderOf, stageOf, isNothing}
+use Rattle.table.proofs.Held.{held-heading, few-inputs, ordered}
+use Rattle.fill.specs.declared.Levels.{Levels}
+use Rattle.fill.specs.Calls.{heldTable, enough}
 use Rattle.sift.proofs.BestLevel.{best-below}
+use Rattle.sift.proofs.CountSucceeds.{counted-work, counted-levels, enough-again, zero-still}
+use Rattle.sift.proofs.SiftedCounts.{sifted-best}
 use Rattle.sift.proofs.SiftOutcome.{sift-short, sift-no-table, sift-no-variable, sift-done}
 use Rattle.sift.proofs.single.sift.Statement.{statement}
 use Rattle.sift.proofs.single.sift.Tie as tie
-use Rattle.sift.proofs.single.sift.Reads as reads
-use Rattle.sift.proofs.single.sift.Lts as lts
-use Rattle.sift.proofs.order.moved_to.Reads as moved-to-reads
-use Rattle.sift.proofs.room.has_room.Reads as has-room-reads
-use Rattle.sift.proofs.trials.best_level.Reads as best-level-reads
-use Rattle.sift.proofs.trials.reorder.Reads as reorder-reads
-use Rattle.table.proofs.valid.holds_table.Reads as holds-table-reads
-use Rattle.table.proofs.Held.{held-heading, heading-inputs, heading-order}
 
 has-room-requires : tie.Need-has-room-requires
 has-room-requires c κs = search needs
@@ -55,33 +54,57 @@ returns-3 c =
     (sym (m .ensures) ∙ not-false (m .result) (c .before .before .before .if1 .left))
     (sym (h .ensures) ∙ not-false (h .result) (c .before .if2 .left)) (c .if3 .taken)
 
-best-level-requires : tie.Need-best-level-requires
-best-level-requires c κs =
-    let far = c .before .before .before .before .before .before .before .before in
-    let a = far .before .args in
+counts-requires : tie.Need-counts-requires
+counts-requires c κs = search needs
+
+-- what the tests showed before the count
+
+abbrev begun : tie.After-counts → tie.Start
+begun k = k .before .before .before .before .before .before .before .before .before .before
+
+long : (k : tie.After-counts) → let a = begun k .args in T (enough (now (a .values)) (now (a .care)) (now (a .work)))
+long k =
+    let c = k .before in
     let m = c .before .before .before .before .before .has-room in
-    let h = c .before .before .before .holds-table in (
-      to-T (sym (m .ensures) ∙ not-false (m .result) (c .before .before .before .before .if1 .left)),
-      (held-heading (a .state) (to-T (sym (h .ensures) ∙ not-false (h .result) (c .before .before .if2 .left))), c .before .if3 .left),
+    to-T (sym (m .ensures) ∙ not-false (m .result) (c .before .before .before .before .if1 .left))
+
+held : (k : tie.After-counts) → T (not (isNothing (stageOf (begun k .args .state))))
+held k =
+    let c = k .before in
+    let h = c .before .before .before .holds-table in
+    to-T (sym (h .ensures) ∙ not-false (h .result) (c .before .before .if2 .left))
+
+below : (k : tie.After-counts) → begun k .args .variable < begun k .args .state .n
+below k = k .before .before .if3 .left
+
+sift-one-requires : tie.Need-sift-one-requires
+sift-one-requires c κs =
+    let k = c .before .before .before .before in
+    let a = begun k .args in
+    let vs = now (a .values) in
+    let cs = now (a .care) in
+    let r = k .counts in (
+      enough-again vs cs (now (a .work)) (r .last .1 .1 .1 .0) (long k) (r .kept .1 .1 .1 .0),
+      (
+        held-heading (a .state) (held k),
+        (below k, ap (λ (x : Levels). x .counts) (r .ensures .0) ∙ counted-levels (a .state) vs cs (now (a .work)) (long k) (held k)),
+      ),
     )
 
 moved-to-requires : tie.Need-moved-to-requires
 moved-to-requires c κs =
-    let far = c .before .before .before .before .before .before .before .before in
-    let a = far .before .before .before .before .before .args in
-    let vs = now (a .values) in
-    let cs = now (a .care) in
-    let h = c .before .before .before .before .before .before .before .holds-table in
-    let r = c .before .before .before .best-level in
-    let held = to-T (sym (h .ensures) ∙ not-false (h .result) (c .before .before .before .before .before .before .if2 .left)) in
-    let g = held-heading (a .state) held in (
-      heading-inputs (a .state .n) (a .state .m) (orderOf (a .state)) g,
+    let f = c .before .before .before .before in
+    let k = f .before .before .before .before .before in
+    let a = begun k .args in
+    let t = heldTable (a .state) (now (a .values)) (now (a .care)) in
+    let r = f .sift-one in (
+      few-inputs (a .state) (held k),
       (
-        heading-order (a .state .n) (a .state .m) (orderOf (a .state)) g,
+        ordered (a .state) (held k),
         (
-          c .before .before .before .before .before .if3 .left,
-          best-below (heldTable (a .state) vs cs) (a .variable) (orderOf (a .state)) (r .result) (r .ensures .0)
-              (c .before .before .before .before .before .if3 .left),
+          below k,
+          best-below t (a .variable) (orderOf (a .state)) (r .result .best)
+              (sifted-best t (a .variable) (orderOf (a .state)) (r .result) (r .ensures .0)) (below k),
         ),
       ),
     )
@@ -94,19 +117,18 @@ same-length c = search needs
 
 returns-4 : tie.Need-returns-4
 returns-4 c =
-    let far = c .before .before .before .before .before .before .before .before in
-    let a = far .before .before .before .before .before .before .before .args in
+    let f = c .before .before .before .before .before .before in
+    let k = f .before .before .before .before .before in
+    let a = begun k .args in
     let vs = now (a .values) in
     let cs = now (a .care) in
-    let m = far .before .before .before .has-room in
-    let h = far .before .holds-table in
-    let r = c .before .before .before .before .before .best-level in
+    let r = f .sift-one in
     let o = c .before .moved-to in
-    sift-done (a .state) (a .variable) vs cs (now (a .work)) (sym (m .ensures) ∙ not-false (m .result) (far .before .before .if1 .left))
-    (sym (h .ensures) ∙ not-false (h .result) (c .before .before .before .before .before .before .before .before .if2 .left))
-    (c .before .before .before .before .before .before .before .if3 .left) (r .result) (r .ensures .0) (o .result) (o .ensures)
-    (c .reorder .result) (c .reorder .ensures)
-    (r .last .1 .1 .1 .1 .0) (r .ensures .1)
+    sift-done (a .state) (a .variable) vs cs (now (a .work)) (of-T (long k)) (of-T (held k)) (below k) (r .result .best)
+    (sifted-best (heldTable (a .state) vs cs) (a .variable) (orderOf (a .state)) (r .result) (r .ensures .0)) (o .result) (o .ensures)
+    (c .reorder .result) (c .reorder .ensures) (r .last .1 .1 .1 .1 .1 .0)
+    (zero-still (now (a .work)) (k .counts .last .1 .1 .1 .0) (r .last .1 .1 .1 .1 .1 .0)
+    (k .counts .ensures .1 ∙ counted-work (a .state) vs cs (now (a .work)) (long k) (held k)) (r .ensures .1))
 
 pub sift-spec : {M : Type 1} → statement M
 sift-spec =
@@ -117,7 +139,8 @@ sift-spec =
     holds-table-requires
     returns-2
     returns-3
-    best-level-requires
+    counts-requires
+    sift-one-requires
     moved-to-requires
     reorder-requires
     same-length

@@ -1,52 +1,88 @@
--- `sift::trials::best_level` meets its contract. The invariant: what is held is the best after p trials, all counted, and the work
--- buffer is zero but before the first. The measure is the number of levels left.
+-- `sift::trials::best_level` meets its contract. The invariant: what is held is the best after p trials, all counted. The measure is the
+-- number of levels left.
 -- Assumes nothing.
 use borrow.Author.Needs.{needs}
-use mathlib.Core.Path.{_≡_, refl, ap, _∙_}
-use Prim.Native.Nat.{_≤_, _-_}
+use mathlib.Core.Path.{_≡_, refl, ap₂, _∙_}
+use mathlib.Core.List.{sum}
+use Prim.Native.Nat.{ℕ, _+_, _-_, _≤_, _<_}
 use native.Mathlib.Omega.{arith}
 use denote.Ref.{now}
-use lib.ListN.{length}
+use Rattle.diagram.specs.Bound.{mostVariables, mostNodes}
 use Rattle.table.specs.State.{orderOf}
-use Rattle.table.proofs.Held.{heading-inputs}
-use Rattle.fill.specs.Calls.{heldTable}
-use Rattle.sift.proofs.WorkZeroed.{Zeroed, zero-length, zeroed-none, zeroed-again}
-use Rattle.sift.proofs.BestLevel.{afterTrials, trials-counted, trials-more, best-all}
+use Rattle.table.proofs.Held.{heading-inputs, heading-order}
+use Rattle.fill.specs.Calls.{heldTable, countsOf}
+use Rattle.sift.specs.inner.Trials.{costAt, bestWith}
+use Rattle.sift.proofs.MovedCounts.{moved-total}
+use Rattle.sift.proofs.BestLevel.{afterTrials, trials-counted, trials-more, best-all, present-level}
 use Rattle.sift.proofs.trials.best_level.Statement.{statement}
 use Rattle.sift.proofs.trials.best_level.Tie as tie
-use Rattle.sift.proofs.trials.best_level.Reads as reads
-use Rattle.sift.proofs.trials.best_level.Lts as lts
-use Rattle.sift.proofs.trials.try_level.Reads as try-level-reads
 
 abbrev Inv-loop : tie.InvT-loop
-Inv-loop state v values care work₀ n best₀ p₀ work best p =
-    (p ≤ n) × ((best ≡ afterTrials (heldTable state values care) v (orderOf state) p) × Zeroed values care work₀ p work)
+Inv-loop state v values care counts work order best₀ p₀ best p =
+    (p ≤ state .n) × (best ≡ afterTrials (heldTable state values care) v (orderOf state) p)
 
 abbrev μ-loop : tie.MeasureT-loop
-μ-loop state v values care work₀ n best₀ p₀ work best p = n - p
+μ-loop state v values care counts work order best₀ p₀ best p = state .n - p
+
+count-levels-requires : tie.Need-count-levels-requires Inv-loop μ-loop
+count-levels-requires c κs = search needs
 
 loop-holds : tie.Need-loop-holds Inv-loop μ-loop
-loop-holds c =
-    let s = c .before .before .before in
+loop-holds c = (search needs, refl)
+
+abbrev begun : tie.After-count-levels Inv-loop μ-loop → tie.Start Inv-loop μ-loop
+begun k = k .before .before .before .before .before .before .before
+
+few : (k : tie.After-count-levels Inv-loop μ-loop) → begun k .args .state .n ≤ mostVariables
+few k =
+    let s = begun k in
+    let t = s .args .state in
+    heading-inputs (t .n) (t .m) (orderOf t) (s .pre .1 .0)
+
+-- the counts of each level add up to the cost of the order with v there
+total : (k : tie.After-count-levels Inv-loop μ-loop) (p : ℕ)
+    → let a = begun k .args in
+    let cs = countsOf p (k .count-levels .last .1 .1 .1 .1 .1 .0) in
+    p < a .state .n
+    → (sum _+_ 0 cs ≡ costAt (heldTable (a .state) (now (a .values)) (now (a .care))) (a .v) (orderOf (a .state)) p)
+    × (sum _+_ 0 cs ≤ mostNodes)
+total k p h =
+    let s = begun k in
     let a = s .args in
-    (search needs, (refl, zeroed-none (now (a .values)) (now (a .care)) (now (a .work)) (s .pre .0)))
+    moved-total (a .state) (now (a .values)) (now (a .care)) (s .pre .1 .0) (a .v) (s .pre .1 .1 .0 .0)
+    (k .count-levels .last .1 .1 .1 .1 .1 .0) (k .count-levels .ensures .0) p h
+
+total-of-requires : tie.Need-total-of-requires Inv-loop μ-loop
+total-of-requires c κs =
+    let k = c .before .before .before .before .before .before .before .before .before in
+    let s = begun k in
+    let l = c .before .before .before .loop in
+    let below = c .before .if1 .taken in (
+      (omega (arith, below, few k), omega (arith, s .pre .1 .1 .0 .1, k .count-levels .kept .1 .1 .1 .1 .1 .0)),
+      total k (l .p) below .1,
+    )
+
+mul-try-level : tie.Need-mul-try-level Inv-loop μ-loop
+mul-try-level c =
+    let k = c .before .before .before .before .before .before .before .before .before .before in
+    omega (arith, c .before .before .if1 .taken, few k)
+
+array-read-try-level : tie.Need-array-read-try-level Inv-loop μ-loop
+array-read-try-level c =
+    let k = c .before .before .before .before .before .before .before .before .before .before in
+    omega (arith, c .before .before .if1 .taken, few k)
 
 try-level-requires : tie.Need-try-level-requires Inv-loop μ-loop
 try-level-requires c κs =
-    let s = c .before .before .before .before .before .before in
-    let a = s .args in
-    let l = c .before .before .loop in
+    let k = c .before .before .before .before .before .before .before .before .before .before in
+    let a = begun k .args in
+    let l = c .before .before .before .before .loop in
     let t = heldTable (a .state) (now (a .values)) (now (a .care)) in
-    let few = heading-inputs (a .state .n) (a .state .m) (orderOf (a .state)) (s .pre .1 .0) in
-    let below = c .before .loop-test .taken in (
-      l .inv .1 .1 .room,
-      (
-        s .pre .1 .0,
-        (
-          s .pre .1 .1,
-          (below, omega (arith, few, below, trials-counted t (a .v) (orderOf (a .state)) (l .p) (l .best) (l .inv .1 .0))),
-        ),
-      ),
+    omega (
+      arith,
+      trials-counted t (a .v) (orderOf (a .state)) (l .p) (l .best) (l .inv .1),
+      c .before .before .if1 .taken,
+      few k,
     )
 
 add-p : tie.Need-add-p Inv-loop μ-loop
@@ -57,36 +93,36 @@ loop-less c = search needs
 
 loop-again : tie.Need-loop-again Inv-loop μ-loop
 loop-again c =
-    let s = c .before .before .before .before .before .before .before .before .before in
+    let k = c .before .before .before .before .before .before .before .before .before .before .before in
+    let s = begun k in
     let a = s .args in
-    let vs = now (a .values) in
-    let cs = now (a .care) in
+    let t = a .state in
     let l = c .before .before .before .before .before .loop in
-    let r = c .before .before .try-level in (
-      search needs,
-      (
-        trials-more (heldTable (a .state) vs cs) (a .v) (orderOf (a .state)) (l .p) (l .best) (r .result) (l .inv .1 .0)
-            (r .ensures .0),
-        zeroed-again vs cs (now (a .work)) (l .p) _ (l .work) (r .last .1 .1 .1 .1 .1 .1 .0) (l .inv .1 .1) (r .ensures .1),
-      ),
+    let below = c .before .before .before .if1 .taken in
+    let r = c .before .total-of in (
+      omega (arith, below),
+      trials-more (heldTable t (now (a .values)) (now (a .care))) (a .v) (orderOf t) (l .p) (l .best) (c .try-level .result) (l .inv .1)
+          (c .try-level .ensures
+          ∙ ap₂ (bestWith (l .best) (l .p)) (r .ensures ∙ total k (l .p) below .0)
+          (present-level (t .n) (t .order) (a .v) (l .p)
+          (heading-order (t .n) (t .m) (orderOf t) (s .pre .1 .0)) (s .pre .1 .1 .0 .0) below)),
     )
 
 same-length : tie.Need-same-length Inv-loop μ-loop
-same-length c =
-    let s = c .before .before .before .before .before in
-    let a = s .args in
-    let l = c .before .loop in
-    ap length (l .inv .1 .1 .zero (omega (arith, s .pre .1 .1, c .loop-test .left)))
-    ∙ zero-length (now (a .values)) (now (a .care)) (now (a .work)) (s .pre .0)
+same-length c = search needs
+
+same-length-2 : tie.Need-same-length-2 Inv-loop μ-loop
+same-length-2 c = search needs
 
 returns : tie.Need-returns Inv-loop μ-loop
 returns c =
-    let s = c .before .before .before .before .before in
+    let k = c .before .before .before .before .before .before .before .before in
+    let s = begun k in
     let a = s .args in
-    let l = c .before .loop in (
+    let l = c .before .before .loop in (
       best-all (heldTable (a .state) (now (a .values)) (now (a .care))) (a .v) (orderOf (a .state)) (l .p) (l .best)
-          (omega (arith, l .inv .0, c .loop-test .left)) (omega (arith, s .pre .1 .1)) (l .inv .1 .0),
-      l .inv .1 .1 .zero (omega (arith, s .pre .1 .1, c .loop-test .left)),
+          (omega (arith, l .inv .0, c .if1 .left)) (omega (arith, s .pre .1 .1 .0 .0)) (l .inv .1),
+      (k .count-levels .ensures .0, k .count-levels .ensures .1),
     )
 
 pub best-level-spec : {M : Type 1} → statement M
@@ -95,10 +131,15 @@ best-level-spec =
     (tie.spec
     Inv-loop
     μ-loop
+    count-levels-requires
     loop-holds
+    total-of-requires
+    mul-try-level
+    array-read-try-level
     try-level-requires
     add-p
     loop-less
     loop-again
     same-length
+    same-length-2
     returns)
