@@ -6,3 +6,4 @@ pub mod Linking
 pub mod Lowered
 pub mod Parts
 pub mod Room
+pub mod Wordwise

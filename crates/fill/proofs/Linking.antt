@@ -1,8 +1,10 @@
 pub mod Along
+pub mod First
 pub mod LinkedHalf
 pub mod LinkedHalves
 pub mod LinkedOutputs
 pub mod LinkedPair
+pub mod NarrowEntry
+pub mod NarrowHalves
 pub mod TreeLevel
-pub mod TriedEntry
 pub mod Twice

@@ -1,7 +1,7 @@
 pub mod Splice
 pub mod Bytes
 pub mod Parts
-pub mod Tried
+pub mod Found
 pub mod Level
 pub mod Descent
 pub mod Counts

@@ -14,6 +14,7 @@ ghost use Rattle.reorder.specs.Sizes.{width};
 ghost use Rattle.fill.specs.Work.{workSize, regionSize, linksAt, linkBytes, allLinks};
 ghost use Rattle.fill.specs.inner.Splice.{splice};
 ghost use Rattle.fill.specs.inner.Level.{partsAt, written};
+ghost use Rattle.fill.specs.inner.Words.{wordSize};
 ghost use Rattle.fill.specs.Calls.{perLevel};
 ghost use Rattle.fill.specs.inner.Descent.{levelBelow, linksBelow, countsBelow, roomy, holding, linksUpTo};
 
@@ -31,6 +32,7 @@ pub(crate) fn level_below(
     requires { ⌜ (from + regionSize ≤ to) ⊎ (to + regionSize ≤ from) ⌝ }
     requires { ⌜ (from + regionSize ≤ links) × (to + regionSize ≤ links) × (links + 4 * count ≤ length (now work)) ⌝ }
     requires { ⌜ (count * (width (suc d) + width (suc d)) ≤ regionSize) × ((count + count) * (width d + width d) ≤ regionSize) ⌝ }
+    requires { ⌜ (from + regionSize + wordSize ≤ length (now work)) × (to + regionSize + wordSize ≤ length (now work)) ⌝ }
     ensures entries { λ r. ⌜ r ≡ length (levelBelow d (partsAt (suc d) count from (now (work .entry))) .parts) ⌝ }
     ensures work { λ _. ⌜ now (work .exit)
         ≡ splice (written (levelBelow d (partsAt (suc d) count from (now (work .entry)))) to links (now (work .entry)))

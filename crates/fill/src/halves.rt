@@ -30,17 +30,6 @@ pub(crate) fn half_byte(b: bool, d: usize, x: u8) -> u8
     x & mask
 }
 
-// Half b of a part below a byte: its bits.
-pub(crate) fn take_bits(b: bool, d: usize, part: &[u8], cand: &mut [u8])
-    requires { ⌜ d < 3 ⌝ }
-    requires { ⌜ length (now part) ≡ width (suc d) + width (suc d) ⌝ }
-    requires { ⌜ width d + width d ≤ length (now cand) ⌝ }
-    ensures { λ _. ⌜ now (cand .exit) ≡ halfPart b d (now (part .entry)) ++ drop (width d + width d) (now (cand .entry)) ⌝ }
-{
-    cand[0] = half_byte(b, d, part[0]);
-    cand[1] = half_byte(b, d, part[1]);
-}
-
 // n where b is true, else 0.
 pub(crate) fn where_true(b: bool, n: usize) -> usize
     ensures { λ r. ⌜ r ≡ digit b * n ⌝ }
@@ -51,7 +40,7 @@ pub(crate) fn where_true(b: bool, n: usize) -> usize
     0
 }
 
-// Half b of a part of whole bytes: those of its values, and those of its care.
+// Half b of a part of whole bytes, to the front of cand: the bytes of its values, and those of its care.
 pub(crate) fn take_bytes(b: bool, d: usize, part: &[u8], cand: &mut [u8])
     requires { ⌜ 3 ≤ d ⌝ }
     requires { ⌜ d < mostVariables ⌝ }
@@ -66,18 +55,4 @@ pub(crate) fn take_bytes(b: bool, d: usize, part: &[u8], cand: &mut [u8])
     let care = w + w + values;
     let care_end = care + w;
     copy_to(&part[care..care_end], cand, w);
-}
-
-// Half b of a part, to the front of cand.
-pub(crate) fn take_half(b: bool, d: usize, part: &[u8], cand: &mut [u8])
-    requires { ⌜ d < mostVariables ⌝ }
-    requires { ⌜ length (now part) ≡ width (suc d) + width (suc d) ⌝ }
-    requires { ⌜ width d + width d ≤ length (now cand) ⌝ }
-    ensures { λ _. ⌜ now (cand .exit) ≡ halfPart b d (now (part .entry)) ++ drop (width d + width d) (now (cand .entry)) ⌝ }
-{
-    if d < 3 {
-        take_bits(b, d, part, cand);
-        return;
-    }
-    take_bytes(b, d, part, cand);
 }

@@ -1,8 +1,9 @@
 // One level: what the halves of the entries' parts come to are the candidates of the next level, whose entries' parts go to a region of
-// their own.
-use crate::halves::take_half;
+// their own. A level of narrow candidates goes by words, a wider one by halves that are copied.
+use crate::halves::take_bytes;
 use crate::link::link_both;
 use crate::link::link_twice;
+use crate::narrow_level::narrow_level;
 use crate::part::unite;
 use reorder::PART;
 use reorder::width::width_of;
@@ -12,14 +13,15 @@ ghost use mathlib.Core.List.{[], _∷_, _++_};
 ghost use Prim.Native.Nat.{suc, _+_, _*_, _≤_, _<_};
 ghost use lib.ListN.{length, drop};
 ghost use Rattle.diagram.specs.Bound.{mostVariables};
-ghost use Rattle.reorder.specs.Sizes.{width};
+ghost use Rattle.reorder.specs.Sizes.{width, partSize};
 ghost use Rattle.fill.specs.Work.{regionSize};
 ghost use Rattle.fill.specs.inner.Parts.{levelParts, unitedOr, halfPart, offeredParts};
 ghost use Rattle.fill.specs.inner.Level.{partAt, partsAt, written};
+ghost use Rattle.fill.specs.inner.Words.{wordSize};
 
 // Half b of the part at a, to the front of cand.
 pub(crate) fn half_at(b: bool, d: usize, a: usize, work: &[u8], cand: &mut [u8])
-    requires { ⌜ d < mostVariables ⌝ }
+    requires { ⌜ (3 ≤ d) × (d < mostVariables) ⌝ }
     requires { ⌜ a + (width (suc d) + width (suc d)) ≤ length (now work) ⌝ }
     requires { ⌜ width d + width d ≤ length (now cand) ⌝ }
     ensures { λ _. ⌜ now (cand .exit)
@@ -27,7 +29,7 @@ pub(crate) fn half_at(b: bool, d: usize, a: usize, work: &[u8], cand: &mut [u8])
 {
     let v = width_of(d + 1);
     let end = a + (v + v);
-    take_half(b, d, &work[a..end], cand);
+    take_bytes(b, d, &work[a..end], cand);
 }
 
 // Links an entry's halves: the candidate that they become where they agree, else the 0-half, low, and then the 1-half. Writes both links
@@ -43,7 +45,7 @@ pub(crate) fn link_taken(
 ) -> usize
     requires { ⌜ (d ≤ mostVariables) × (length (now low) ≡ width d + width d) × (length (now high) ≡ width d + width d) ⌝ }
     requires { ⌜ (to + regionSize ≤ l) × ((k + 2) * (width d + width d) ≤ regionSize) ⌝ }
-    requires { ⌜ l + 4 ≤ length (now work) ⌝ }
+    requires { ⌜ (l + 4 ≤ length (now work)) × (to + regionSize + wordSize ≤ length (now work)) ⌝ }
     ensures entries { λ r. ⌜ r
         ≡ length (levelParts (width d) (partsAt d k to (now (work .entry)))
         (unitedOr (width d) (now (high .entry)) (now (low .entry)) (now (low .entry))
@@ -61,18 +63,21 @@ pub(crate) fn link_taken(
     link_both(d, low, high, to, k, l, work)
 }
 
-// The same of the halves of the part at a.
+// The same of the halves of the part at a, which are taken to the front of two lent buffers.
 pub(crate) fn link_halves(
     d: usize,
     a: usize,
     to: usize,
     k: usize,
     l: usize,
+    low: &mut [u8],
+    high: &mut [u8],
     work: &mut [u8],
 ) -> usize
-    requires { ⌜ (d < mostVariables) × (a + (width (suc d) + width (suc d)) ≤ length (now work)) ⌝ }
+    requires { ⌜ (3 ≤ d) × (d < mostVariables) × (a + (width (suc d) + width (suc d)) + wordSize ≤ length (now work)) ⌝ }
     requires { ⌜ (to + regionSize ≤ l) × ((k + 2) * (width d + width d) ≤ regionSize) ⌝ }
-    requires { ⌜ l + 4 ≤ length (now work) ⌝ }
+    requires { ⌜ (l + 4 ≤ length (now work)) × (to + regionSize + wordSize ≤ length (now work)) ⌝ }
+    requires { ⌜ (partSize ≤ length (now low)) × (partSize ≤ length (now high)) ⌝ }
     ensures entries { λ r. ⌜ r
         ≡ length (levelParts (width d) (partsAt d k to (now (work .entry)))
         (offeredParts d (partAt (suc d) a (now (work .entry)) ∷ [])) .parts) ⌝ }
@@ -80,13 +85,46 @@ pub(crate) fn link_halves(
         ≡ written (levelParts (width d) (partsAt d k to (now (work .entry))) (offeredParts d (partAt (suc d) a (now (work .entry)) ∷ [])))
         to l (now (work .entry)) ⌝ }
 {
-    let mut low = [0u8; PART];
-    half_at(false, d, a, work, &mut low);
-    let mut high = [0u8; PART];
-    half_at(true, d, a, work, &mut high);
+    half_at(false, d, a, work, low);
+    half_at(true, d, a, work, high);
     let w = width_of(d);
     let s = w + w;
     link_taken(d, &mut low[0..s], &high[0..s], to, k, l, work)
+}
+
+// A level of wide candidates, with two lent buffers for an entry's halves.
+pub(crate) fn wide_level(
+    d: usize,
+    from: usize,
+    count: usize,
+    to: usize,
+    links: usize,
+    low: &mut [u8],
+    high: &mut [u8],
+    work: &mut [u8],
+) -> usize
+    requires { ⌜ (3 ≤ d) × (d < mostVariables) ⌝ }
+    requires { ⌜ (from + regionSize ≤ to) ⊎ (to + regionSize ≤ from) ⌝ }
+    requires { ⌜ (from + regionSize ≤ links) × (to + regionSize ≤ links) × (links + 4 * count ≤ length (now work)) ⌝ }
+    requires { ⌜ (count * (width (suc d) + width (suc d)) ≤ regionSize) × ((count + count) * (width d + width d) ≤ regionSize) ⌝ }
+    requires { ⌜ (from + regionSize + wordSize ≤ length (now work)) × (to + regionSize + wordSize ≤ length (now work)) ⌝ }
+    requires { ⌜ (partSize ≤ length (now low)) × (partSize ≤ length (now high)) ⌝ }
+    ensures entries { λ r. ⌜ r
+        ≡ length (levelParts (width d) [] (offeredParts d (partsAt (suc d) count from (now (work .entry)))) .parts) ⌝ }
+    ensures work { λ _. ⌜ now (work .exit)
+        ≡ written (levelParts (width d) [] (offeredParts d (partsAt (suc d) count from (now (work .entry))))) to links
+        (now (work .entry)) ⌝ }
+{
+    let v = width_of(d + 1);
+    let mut e = 0;
+    let mut k = 0;
+    while e < count {
+        let a = from + e * (v + v);
+        let l = links + 4 * e;
+        k = link_halves(d, a, to, k, l, low, high, work);
+        e += 1;
+    }
+    k
 }
 
 // Links what the halves of count parts at from come to among the entries at to, of which there are none yet, and writes the links at
@@ -103,20 +141,17 @@ pub(crate) fn level(
     requires { ⌜ (from + regionSize ≤ to) ⊎ (to + regionSize ≤ from) ⌝ }
     requires { ⌜ (from + regionSize ≤ links) × (to + regionSize ≤ links) × (links + 4 * count ≤ length (now work)) ⌝ }
     requires { ⌜ (count * (width (suc d) + width (suc d)) ≤ regionSize) × ((count + count) * (width d + width d) ≤ regionSize) ⌝ }
+    requires { ⌜ (from + regionSize + wordSize ≤ length (now work)) × (to + regionSize + wordSize ≤ length (now work)) ⌝ }
     ensures entries { λ r. ⌜ r
         ≡ length (levelParts (width d) [] (offeredParts d (partsAt (suc d) count from (now (work .entry)))) .parts) ⌝ }
     ensures work { λ _. ⌜ now (work .exit)
         ≡ written (levelParts (width d) [] (offeredParts d (partsAt (suc d) count from (now (work .entry))))) to links
         (now (work .entry)) ⌝ }
 {
-    let v = width_of(d + 1);
-    let mut e = 0;
-    let mut k = 0;
-    while e < count {
-        let a = from + e * (v + v);
-        let l = links + 4 * e;
-        k = link_halves(d, a, to, k, l, work);
-        e += 1;
+    if d <= 6 {
+        return narrow_level(d, from, count, to, links, work);
     }
-    k
+    let mut low = [0u8; PART];
+    let mut high = [0u8; PART];
+    wide_level(d, from, count, to, links, &mut low, &mut high, work)
 }

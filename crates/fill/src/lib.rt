@@ -10,8 +10,12 @@ mod halves;
 mod level;
 mod link;
 mod lowering;
+mod narrow;
+mod narrow_level;
 mod outputs;
 mod part;
+mod wide;
+mod words;
 
 use crate::filling::fill_held;
 use crate::lowering::try_held;

@@ -1,6 +1,7 @@
 // Candidates linked: their parts go among the entries of a region, and their links' numbers behind the regions.
 use crate::REGION;
 use crate::entries::candidate;
+use crate::words::WORD;
 use reorder::width::width_of;
 ghost use mathlib.Core.Path.{_≡_};
 ghost use mathlib.Core.List.{[], _∷_};
@@ -12,6 +13,7 @@ ghost use Rattle.fill.specs.Work.{regionSize};
 ghost use Rattle.fill.specs.inner.Splice.{splice};
 ghost use Rattle.fill.specs.inner.Parts.{levelParts};
 ghost use Rattle.fill.specs.inner.Level.{partsAt, written};
+ghost use Rattle.fill.specs.inner.Words.{wordSize};
 
 // Writes a link's number as two bytes, the low one first.
 pub(crate) fn put_link(link: usize, work: &mut [u8], k: usize)
@@ -26,14 +28,14 @@ pub(crate) fn put_link(link: usize, work: &mut [u8], k: usize)
 // Links the candidate f of d variables among the k entries at to, and writes its link at l. Returns the number of entries.
 pub(crate) fn link_part(d: usize, f: &[u8], to: usize, k: usize, l: usize, work: &mut [u8]) -> usize
     requires { ⌜ (d ≤ mostVariables) × (length (now f) ≡ width d + width d) ⌝ }
-    requires { ⌜ (to + regionSize ≤ length (now work)) × ((k + 1) * (width d + width d) ≤ regionSize) ⌝ }
+    requires { ⌜ (to + regionSize + wordSize ≤ length (now work)) × ((k + 1) * (width d + width d) ≤ regionSize) ⌝ }
     requires { ⌜ l + 2 ≤ length (now work) ⌝ }
     ensures entries { λ r. ⌜ r ≡ length (levelParts (width d) (partsAt d k to (now (work .entry))) (now (f .entry) ∷ []) .parts) ⌝ }
     ensures work { λ _. ⌜ now (work .exit)
         ≡ written (levelParts (width d) (partsAt d k to (now (work .entry))) (now (f .entry) ∷ [])) to l (now (work .entry)) ⌝ }
 {
     let w = width_of(d);
-    let stop = to + REGION;
+    let stop = to + REGION + WORD;
     let linked = candidate(w, f, &mut work[to..stop], k);
     put_link(linked.link, work, l);
     linked.entries
@@ -64,7 +66,7 @@ pub(crate) fn link_twice(
 ) -> usize
     requires { ⌜ (d ≤ mostVariables) × (length (now f) ≡ width d + width d) ⌝ }
     requires { ⌜ (to + regionSize ≤ l) × ((k + 1) * (width d + width d) ≤ regionSize) ⌝ }
-    requires { ⌜ l + 4 ≤ length (now work) ⌝ }
+    requires { ⌜ (l + 4 ≤ length (now work)) × (to + regionSize + wordSize ≤ length (now work)) ⌝ }
     ensures entries { λ r. ⌜ r
         ≡ length (levelParts (width d) (partsAt d k to (now (work .entry))) (now (f .entry) ∷ now (f .entry) ∷ []) .parts) ⌝ }
     ensures work { λ _. ⌜ now (work .exit)
@@ -88,7 +90,7 @@ pub(crate) fn link_both(
 ) -> usize
     requires { ⌜ (d ≤ mostVariables) × (length (now f) ≡ width d + width d) × (length (now g) ≡ width d + width d) ⌝ }
     requires { ⌜ (to + regionSize ≤ l) × ((k + 2) * (width d + width d) ≤ regionSize) ⌝ }
-    requires { ⌜ l + 4 ≤ length (now work) ⌝ }
+    requires { ⌜ (l + 4 ≤ length (now work)) × (to + regionSize + wordSize ≤ length (now work)) ⌝ }
     ensures entries { λ r. ⌜ r
         ≡ length (levelParts (width d) (partsAt d k to (now (work .entry))) (now (f .entry) ∷ now (g .entry) ∷ []) .parts) ⌝ }
     ensures work { λ _. ⌜ now (work .exit)

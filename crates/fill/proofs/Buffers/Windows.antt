@@ -20,6 +20,10 @@ take-split l n m h =
     let e : m ≡ n + (m - n) = omega arith in
     ap (λ (y : ℕ). drop n (take y l)) e ∙ drop-take n (m - n) l
 
+-- a part of the first m elements
+pub window-within : (l : List ℕ) (n j m : ℕ) → n + j ≤ m → take j (drop n (take m l)) ≡ take j (drop n l)
+window-within l n j m h = ap (take j) (take-split l n m (omega arith)) ∙ take-take j (m - n) (drop n l) (omega arith)
+
 module _ (l : List ℕ) (k : ℕ) (x : List ℕ) (in-list : k ≤ length l) where
   take-whole : length (take k l) ≡ k
   take-whole = length-take-le k l in-list

@@ -1,6 +1,6 @@
 -- A candidate linked in the work buffer: the half that is one, the region lent, and what is asked and left.
 -- Assumes nothing.
-use mathlib.Core.Path.{_≡_, sym, ap, ap₂, _∙_, subst, subst₂}
+use mathlib.Core.Path.{_≡_, sym, ap, ap₂, _∙_, subst}
 use mathlib.Core.Bool.{Bool}
 use mathlib.Core.List.{List, [], _∷_, _++_, append-assoc}
 use Prim.Native.Nat.{ℕ, suc, _+_, _*_, _-_, _/_, _%_, _≤_, _<_}
@@ -14,6 +14,7 @@ use Rattle.fill.specs.inner.Parts.{candidatePart, levelParts, chunks, fl
 use Rattle.fill.specs.Work.{regionSize, linkNumber}
 use Rattle.fill.specs.inner.Splice.{splice}
 use Rattle.fill.specs.inner.Level.{partAt, partsAt, written}
+use Rattle.fill.specs.inner.Words.{wordSize}
 use Rattle.fill.proofs.Buffers.Chunks.{length-chunks}
 use Rattle.fill.proofs.Parts.PartHalves.{width-pos, length-half}
 use Rattle.fill.proofs.Linking.Along.{Shown}
@@ -70,46 +71,46 @@ module _ (d k to : ℕ) (f work : List ℕ) (long : length f ≡ width d + width
       let c : length (p .parts) ≤ k + 1 = omega (arith, g, length-chunks s k (drop to work)) in
       (g .0, omega (arith, mul-le-mul-right s c))
 
-  linked-core : (l entries link : ℕ) (region after : List ℕ)
-      → Shown (width d + width d) (take regionSize (drop to work)) (candidatePart (width d) f (partsAt d k to work)) entries link region
-      → after ≡ splice (take to work ++ (region ++ drop regionSize (drop to work))) l (link % 256 ∷ link / 256 % 256 ∷ [])
-      → (entries ≡ length (levelParts (width d) (partsAt d k to work) (f ∷ []) .parts))
-      × (after ≡ written (levelParts (width d) (partsAt d k to work) (f ∷ [])) to l work)
-  unfolding levelParts written
-  linked-core l entries link region after h e =
-      let s = width d + width d in
-      let p = candidatePart (width d) f (partsAt d k to work) in
-      let (g, m) = linked-fit in (
-        h .0,
-        e
-            ∙ ap₂ (λ (y : List ℕ) (n : ℕ). splice (take to work ++ (y ++ drop regionSize (drop to work))) l (n % 256 ∷ n / 256 % 256 ∷ []))
-            (h .1 .1) (h .1 .0)
-            ∙ ap (λ (y : List ℕ). splice y l (linkNumber (p .link) % 256 ∷ linkNumber (p .link) / 256 % 256 ∷ []))
-            (region-back work (flat (p .parts)) to regionSize (length (p .parts) * s) (length-flat s (p .parts) g) m in-work),
-      )
+  -- n bytes are lent, the region's and more
+  module _ (n : ℕ) (more : regionSize ≤ n) (lent : to + n ≤ length work) where
+    linked-core : (l entries link : ℕ) (region after : List ℕ)
+        → Shown (width d + width d) (take n (drop to work)) (candidatePart (width d) f (partsAt d k to work)) entries link region
+        → after ≡ splice (take to work ++ (region ++ drop n (drop to work))) l (link % 256 ∷ link / 256 % 256 ∷ [])
+        → (entries ≡ length (levelParts (width d) (partsAt d k to work) (f ∷ []) .parts))
+        × (after ≡ written (levelParts (width d) (partsAt d k to work) (f ∷ [])) to l work)
+    unfolding levelParts written
+    linked-core l entries link region after h e =
+        let s = width d + width d in
+        let p = candidatePart (width d) f (partsAt d k to work) in
+        let (g, m) = linked-fit in (
+          h .0,
+          e
+              ∙ ap₂ (λ (y : List ℕ) (i : ℕ). splice (take to work ++ (y ++ drop n (drop to work))) l (i % 256 ∷ i / 256 % 256 ∷ []))
+              (h .1 .1) (h .1 .0)
+              ∙ ap (λ (y : List ℕ). splice y l (linkNumber (p .link) % 256 ∷ linkNumber (p .link) / 256 % 256 ∷ []))
+              (region-back work (flat (p .parts)) to n (length (p .parts) * s) (length-flat s (p .parts) g) (omega arith) lent),
+        )
 
-  -- the same, from what code computes: w bytes of values, n bytes lent
-  pub linked-part : (w n l entries link : ℕ) (region after : List ℕ) → w ≡ width d → n ≡ regionSize
-      → Shown (w + w) (take n (drop to work)) (candidatePart w f (chunks (w + w) k (take n (drop to work)))) entries link region
-      → after ≡ splice (take to work ++ (region ++ drop n (drop to work))) l (link % 256 ∷ link / 256 % 256 ∷ [])
-      → (entries ≡ length (levelParts (width d) (partsAt d k to work) (f ∷ []) .parts))
-      × (after ≡ written (levelParts (width d) (partsAt d k to work) (f ∷ [])) to l work)
-  linked-part w n l entries link region after p q h e =
-      let s = width d + width d in
-      let a : Shown s (take regionSize (drop to work)) (candidatePart (width d) f
-      (chunks s k (take regionSize (drop to work)))) entries link region =
-      subst₂ (λ (w n : ℕ). Shown (w + w) (take n (drop to work)) (candidatePart w f
-      (chunks (w + w) k (take n (drop to work)))) entries link region)
-      p q h in
-      linked-core l entries link region after
-      (subst (λ (y : List (List ℕ)). Shown s (take regionSize (drop to work)) (candidatePart (width d) f y) entries link region)
-      (chunks-take s k regionSize (drop to work) (omega arith)) a)
-      (e ∙ ap (λ (y : ℕ). splice (take to work ++ (region ++ drop y (drop to work))) l (link % 256 ∷ link / 256 % 256 ∷ [])) q)
+    -- the same, from what code computes: w bytes of values
+    pub linked-part : (w l entries link : ℕ) (region after : List ℕ) → w ≡ width d
+        → Shown (w + w) (take n (drop to work)) (candidatePart w f (chunks (w + w) k (take n (drop to work)))) entries link region
+        → after ≡ splice (take to work ++ (region ++ drop n (drop to work))) l (link % 256 ∷ link / 256 % 256 ∷ [])
+        → (entries ≡ length (levelParts (width d) (partsAt d k to work) (f ∷ []) .parts))
+        × (after ≡ written (levelParts (width d) (partsAt d k to work) (f ∷ [])) to l work)
+    linked-part w l entries link region after p h e =
+        let s = width d + width d in
+        let a : Shown s (take n (drop to work)) (candidatePart (width d) f (chunks s k (take n (drop to work)))) entries link region =
+        subst (λ (w : ℕ). Shown (w + w) (take n (drop to work)) (candidatePart w f
+        (chunks (w + w) k (take n (drop to work)))) entries link region) p h in
+        linked-core l entries link region after
+        (subst (λ (y : List (List ℕ)). Shown s (take n (drop to work)) (candidatePart (width d) f y) entries link region)
+        (chunks-take s k n (drop to work) (omega arith)) a)
+        e
 
 -- what linking asks
-pub linked-asks : (d k to w n : ℕ) (g work : List ℕ) → w ≡ width d → n ≡ regionSize → length g ≡ width d + width d
-    → (k + 1) * (width d + width d) ≤ regionSize → to + regionSize ≤ length work
-    → (0 < w) × ((length g ≡ w + w) × ((k + 1) * (w + w) ≤ length (take n (drop to work))))
-linked-asks d k to w n g work p q h r i =
+pub linked-asks : (d k to w n : ℕ) (work : List ℕ) → w ≡ width d → n ≡ regionSize + wordSize
+    → (k + 1) * (width d + width d) ≤ regionSize → to + regionSize + wordSize ≤ length work
+    → (0 < w) × ((k + 1) * (w + w) + wordSize ≤ length (take n (drop to work)))
+linked-asks d k to w n work p q r i =
     let s : (k + 1) * (w + w) ≤ regionSize = subst (λ (y : ℕ). (k + 1) * (y + y) ≤ regionSize) (sym p) r in
-    (omega (arith, width-pos d), (omega arith, omega (arith, length-take-le n (drop to work) (omega (arith, length-drop to work)))))
+    (omega (arith, width-pos d), omega (arith, length-take-le n (drop to work) (omega (arith, length-drop to work))))

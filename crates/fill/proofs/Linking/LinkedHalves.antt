@@ -8,11 +8,11 @@ use native.Mathlib.Nat.{mul-le-mul-right}
 use native.Mathlib.Omega.{arith}
 use lib.ListN.{length, take, drop, length-drop}
 use lib.Seq.{drop-drop}
-use Rattle.diagram.specs.Bound.{mostVariables}
 use Rattle.fill.specs.Work.{regionSize}
 use Rattle.reorder.specs.Sizes.{width}
 use Rattle.fill.specs.inner.Parts.{levelParts, offeredParts}
 use Rattle.fill.specs.inner.Level.{partAt, partsAt, written}
+use Rattle.fill.specs.inner.Words.{wordSize}
 use Rattle.fill.proofs.Buffers.Chunks.{length-chunks, chunks-more}
 use Rattle.fill.proofs.Buffers.PartLengths.{Long, long-chunks, level-grown, long-offered, count-offered, offered-append}
 use Rattle.fill.proofs.Linking.LinkedHalf.{length-part}
@@ -59,14 +59,20 @@ module _ (d from count to links : ℕ) (work : List ℕ) (apart : (from + region
       (λ (q : to + regionSize ≤ from). inr (omega arith)) apart
 
   -- what the next turn asks
-  pub turn-asks : (k l : ℕ) (m : List ℕ) → d < mostVariables → l ≡ links + 4 * e → SoFar d from to links work e k m → length m ≡ length work
-      → ((d < mostVariables) × (a + (width (suc d) + width (suc d)) ≤ length m))
-      × (((to + regionSize ≤ l) × ((k + 2) * (width d + width d) ≤ regionSize)) × (l + 4 ≤ length m))
-  turn-asks k l m small i r j =
+  pub turn-asks : (k l : ℕ) (m : List ℕ)
+      → (from + regionSize + wordSize ≤ length work) × (to + regionSize + wordSize ≤ length work)
+      → l ≡ links + 4 * e → SoFar d from to links work e k m → length m ≡ length work
+      → (a + (width (suc d) + width (suc d)) + wordSize ≤ length m)
+      × (((to + regionSize ≤ l) × ((k + 2) * (width d + width d) ≤ regionSize))
+      × ((l + 4 ≤ length m) × (to + regionSize + wordSize ≤ length m)))
+  turn-asks k l m slack i r j =
       let g = level-grown (width d) [] (offeredParts d (partsAt (suc d) e from work)) tt parts-long in
       let few : k + 2 ≤ e + e + 2 = omega (arith, r .entries, g .2, count-here) in (
-        (small, omega (arith, in-region, ends)),
-        ((omega (arith, ends), omega (arith, mul-le-mul-right (width d + width d) few, two-more)), omega (arith, ends)),
+        omega (arith, in-region, slack),
+        (
+          (omega (arith, ends), omega (arith, mul-le-mul-right (width d + width d) few, two-more)),
+          (omega (arith, ends), omega (arith, slack)),
+        ),
       )
 
   parts-more : partsAt (suc d) (e + 1) from work ≡ partsAt (suc d) e from work ++ (partAt (suc d) a work ∷ [])

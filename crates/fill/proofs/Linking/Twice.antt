@@ -10,7 +10,7 @@ use Rattle.diagram.proofs.Bools.{split}
 use Rattle.fill.specs.inner.Parts.{LinkedPart, afterPart, alwaysPart, agreePart, mergePart, alongParts, candidatePart, levelParts}
 use Rattle.fill.proofs.Parts.MergedAgain.{agree-again, merge-again, differ-again, merge-self}
 use Rattle.fill.proofs.Linking.Along.{along-first, along-pass}
-use Rattle.fill.proofs.Linking.TriedEntry.{First, plain-first, inverted-first}
+use Rattle.fill.proofs.Linking.First.{First, plain-first, inverted-first}
 
 -- the first to agree is the first again
 first-again : (i : Bool) (w : ℕ) (f g : List ℕ) → First i w f g → First i w f (mergePart i w f g)

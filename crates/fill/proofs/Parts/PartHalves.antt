@@ -3,13 +3,15 @@
 use mathlib.Core.Path.{_≡_, refl, sym, ap, ap₂, _∙_}
 use mathlib.Core.Bool.{Bool, true, false, cond}
 use mathlib.Core.List.{List, [], _∷_, _++_}
+use mathlib.Core.Logic.{_⊎_, inl, inr}
 use Prim.Native.Nat.{ℕ, zero, suc, _+_, _*_, _-_, _/_, _%_, _^_, _≤_, _<_}
-use native.Mathlib.Nat.{one-mul, zero-mul, div-one, le-of-suc-le-suc, not-suc-le-zero}
+use native.Mathlib.Nat.{one-mul, zero-mul, div-one, le-of-suc-le-suc, not-suc-le-zero, le-of-lt, mul-mod-right}
 use native.Mathlib.Omega.{arith}
-use borrow.Author.Tests.{lt-ltb, le-ltb, ltb-true, ltb-false}
+use borrow.Author.Tests.{lt-ltb, le-ltb, ltb-true, ltb-false, leb-true, leb-false}
 use lib.Bits.{bitAnd, and-mask}
-use lib.Dec.{ltb, lit<, lit≤}
-use lib.ListN.{length, getD, set, take, drop, length-drop, length-append}
+use lib.Dec.{leb, ltb, lit<, lit≤}
+use lib.Pow.{pow-add, pow-mono}
+use lib.ListN.{length, getD, take, drop, length-drop, length-append}
 use lib.Seq.{take-take, drop-drop, length-take-le, getD-take, getD-drop}
 use Rattle.diagram.specs.Lists.{digit}
 use Rattle.diagram.proofs.Bools.{split}
@@ -18,7 +20,7 @@ use Rattle.reorder.specs.Sizes.{width}
 use Rattle.fill.specs.inner.Parts.{halfByte, halfPart}
 use Rattle.fill.specs.inner.Splice.{splice}
 use Rattle.fill.proofs.Buffers.Splice.{drop-take, splice-two}
-use Rattle.reorder.proofs.Pack.{width-small, width-suc}
+use Rattle.reorder.proofs.Pack.{width-small, width-suc, width-rows, by-width}
 
 width-pos-step : (b : Bool) (n : ℕ) → 0 < n → 0 < cond b 1 (n + n)
 width-pos-step true n h = lit< tt
@@ -28,6 +30,21 @@ width-pos-step false n h = omega arith
 pub width-pos : (d : ℕ) → 0 < width d
 width-pos zero = lit< tt
 width-pos (suc d) = width-pos-step (ltb d 3) (width d) (width-pos d)
+
+-- the bytes of up to 64 rows are a word at the most, and those of more are whole words
+pub width-narrow : (d : ℕ) → d ≤ 6 → width d ≤ 8
+width-narrow d h =
+    by-width d (λ k. omega (arith, width-small d (le-of-lt k))) (λ k. omega (arith, width-rows d k, pow-mono {j = 6} h))
+
+pub width-whole : (d : ℕ) → 6 ≤ d → width d % 8 ≡ 0
+width-whole d h =
+    let e : d ≡ 6 + (d - 6) = omega arith in
+    let q : 2 ^ d ≡ 64 * 2 ^ (d - 6) = ap (λ (k : ℕ). 2 ^ k) e ∙ pow-add 2 6 (d - 6) in
+    let w : width d ≡ 8 * 2 ^ (d - 6) = omega (arith, width-rows d (omega arith)) in
+    ap (λ (k : ℕ). k % 8) w ∙ mul-mod-right 8 (2 ^ (d - 6))
+
+pub width-words : (d : ℕ) → (width d ≤ 8) ⊎ (width d % 8 ≡ 0)
+width-words d = split (leb d 6) (λ e. inl (width-narrow d (leb-true d 6 e))) (λ e. inr (width-whole d (le-of-lt (leb-false d 6 e))))
 
 -- bits
 
@@ -71,21 +88,6 @@ unfolding halfPart
 half-bits b d part h =
     let e = lt-ltb d 3 h in
     rw e (ap₂ (λ (x y : ℕ). halfByte b d x ∷ halfByte b d y ∷ []) (getD-take 1 part 0 0 (lit< tt)) (getD-drop 1 part 0 0))
-
-set-two : (l : List ℕ) (x y : ℕ) → 2 ≤ length l → set (set l 0 x) 1 y ≡ x ∷ y ∷ drop 2 l
-set-two [] x y h = absurd (not-suc-le-zero h)
-set-two (a ∷ []) x y h = absurd (not-suc-le-zero (le-of-suc-le-suc h))
-set-two (a ∷ b ∷ l) x y h = refl
-
-pub bits-taken : (b : Bool) (d : ℕ) (part l : List ℕ) (x y : ℕ) → d < 3 → width d + width d ≤ length l
-    → x ≡ halfByte b d (getD part 0 0) → y ≡ halfByte b d (getD part 1 0)
-    → set (set l 0 x) 1 y ≡ halfPart b d part ++ drop (width d + width d) l
-bits-taken b d part l x y h r p q =
-    let w = width-small d (omega arith) in
-    set-two l x y (omega arith)
-    ∙ ap₂ (λ (x y : ℕ). x ∷ y ∷ drop 2 l) p q
-    ∙ ap (λ (n : List ℕ). n ++ drop 2 l) (sym (half-bits b d part h))
-    ∙ ap (λ (n : ℕ). halfPart b d part ++ drop (n + n) l) (sym w)
 
 -- bytes
 

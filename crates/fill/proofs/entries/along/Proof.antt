@@ -1,126 +1,145 @@
--- `fill::entries::along` meets its contract. The loop's invariant: the entries before e are passed, and the region is as it was. The
--- measure is how many entries are left. Assumes nothing.
+-- `fill::entries::along` meets its contract: the entry that is found is lent for the merge, or the candidate is copied behind all entries.
+-- Assumes nothing.
 use borrow.Author.Needs.{needs}
-use mathlib.Core.Path.{_≡_, refl, sym, ap, _∙_, subst}
-use Prim.Native.Nat.{_+_, _*_, _-_, _^_, _≤_, _<_, zero-le}
-use native.Mathlib.Nat.{le-antisymm}
+use denote.Ref.{now}
+use mathlib.Core.Path.{_≡_, refl, _∙_}
+use Prim.Native.Nat.{ℕ, _+_, _*_, _-_, _/_, _%_, _^_, _≤_, _<_}
 use native.Mathlib.Omega.{arith}
+use lib.Dec.{eqb}
 use lib.ListN.{length}
-use Rattle.fill.specs.inner.Splice.{splice}
-use Rattle.fill.proofs.Linking.TriedEntry.{twice-le, room}
-use Rattle.fill.proofs.Linking.Along.{Passed, passed-none, turn-found, turn-passed, shown-end}
+use Rattle.fill.proofs.Linking.Along.{found-within, merged-back, shown-merged, shown-new}
+use Rattle.fill.proofs.Linking.First.{twice-le, part-within}
 use Rattle.fill.proofs.entries.along.Statement.{statement}
 use Rattle.fill.proofs.entries.along.Tie as tie
 
-abbrev Inv-loop : tie.InvT-loop
-Inv-loop w f region₀ k e₀ region e = (e ≤ k) × (region ≡ region₀) × Passed w f region₀ k e
+first-words-requires : tie.Need-first-words-requires
+first-words-requires c κs = search needs
 
-abbrev μ-loop : tie.MeasureT-loop
-μ-loop w f region₀ k e₀ region e = k - e
+-- the entry that is found, and that it lies in the region
+abbrev begun : tie.After-first-words → tie.Start
+begun c = c .before .before .before .before
 
--- the number of a new entry's link fits
-small : (s : tie.Start Inv-loop μ-loop) → 2 * (s .args .k + 1) < 2 ^ 64
-small s = omega (arith, twice-le (s .args .k + 1) (s .args .w) (length (s .args .region .now)) (s .pre .0) (s .pre .1 .1))
+abbrev entry : tie.After-first-words → ℕ
+entry c = c .first-words .result / 2 - 1
 
-loop-holds : tie.Need-loop-holds Inv-loop μ-loop
-loop-holds c =
-    let a = c .before .before .args in
-    (zero-le, refl, passed-none (a .w) (a .f .now) (a .region .now) (a .k))
+within : (c : tie.Then1) → (1 ≤ c .before .first-words .result / 2) × (entry (c .before) < begun (c .before) .args .k)
+within c =
+    let a = begun (c .before) .args in
+    found-within (a .w) (now (a .f)) (now (a .region)) (a .k) (c .before .first-words .result) (c .before .first-words .ensures) (c .if1 .taken)
 
-try-entry-requires : tie.Need-try-entry-requires Inv-loop μ-loop
-try-entry-requires c κs =
-    let l = c .before .before in
-    let s = c .before .before .before .before .before in
+in-region : (c : tie.Then1)
+    → let a = begun (c .before) .args in
+    entry (c .before) * (a .w + a .w) + (a .w + a .w) ≤ length (now (a .region))
+in-region c =
+    let s = begun (c .before) in
     let a = s .args in
-    let r = room (l .loop .e) (a .k) (a .w + a .w) (length (a .region .now)) (c .before .loop-test .taken) (s .pre .1 .1) in
-    (s .pre .0, (s .pre .1 .0, subst (λ n. (l .loop .e + 1) * (a .w + a .w) ≤ n) (sym (ap length (l .loop .inv .1))) r))
+    omega (arith, part-within (a .k) (entry (c .before)) (entry (c .before) * (a .w + a .w)) (a .w + a .w) (within c .1) refl, s .pre .1 .1)
 
-same-length : tie.Need-same-length Inv-loop μ-loop
-same-length c = let e = ap length (c .before .before .before .before .before .before .loop .inv .1) in search needs
+sub-a : tie.Need-sub-a
+sub-a c = within c .0
 
-returns : tie.Need-returns Inv-loop μ-loop
+add-a : tie.Need-add-a
+add-a c = search needs
+
+mul-a : tie.Need-mul-a
+mul-a c = omega (arith, in-region c)
+
+add-b : tie.Need-add-b
+add-b c = search needs
+
+add-b-2 : tie.Need-add-b-2
+add-b-2 c = omega (arith, in-region c)
+
+sub-merge : tie.Need-sub-merge
+sub-merge c = search needs
+
+part-merge-start : tie.Need-part-merge-start
+part-merge-start c = search needs
+
+part-merge-end : tie.Need-part-merge-end
+part-merge-end c = omega (arith, in-region c)
+
+merge-requires : tie.Need-merge-requires
+merge-requires c κs = search needs
+
+same-length : tie.Need-same-length
+same-length c = search needs
+
+returns : tie.Need-returns
 returns c =
-    let l = c .before .before .before .before .before .before in
-    let a = c .before .before .before .before .before .before .before .before .before .args in
-    let t = c .before .before .before .try-entry in
-    turn-found (a .w) (a .f .now) (a .region .now) (a .k) (l .loop .e) (l .loop .region) (t .last .1 .1 .0) (t .result)
-    (c .before .before .before .before .before .loop-test .taken) (l .loop .inv .1) (l .loop .inv .2) (t .ensures .0) (t .ensures .1)
-    (c .if1 .taken)
-
-add-e : tie.Need-add-e Inv-loop μ-loop
-add-e c = search needs
-
-loop-less : tie.Need-loop-less Inv-loop μ-loop
-loop-less c = search needs
-
-loop-again : tie.Need-loop-again Inv-loop μ-loop
-loop-again c =
-    let l = c .before .before .before .before .before .before in
-    let s = c .before .before .before .before .before .before .before .before .before in
+    let m = c .before .before in
+    let t = m .before .before in
+    let r = t .before in
+    let s = begun r in
     let a = s .args in
-    let t = c .before .before .before .try-entry in
-    let r = turn-passed (a .w) (a .f .now) (a .region .now) (a .k) (l .loop .e) (l .loop .region) (t .last .1 .1 .0) (t .result)
-    (c .before .before .before .before .before .loop-test .taken) (l .loop .inv .1) (l .loop .inv .2) (t .ensures .0) (t .ensures .1)
-    (s .pre .1 .1) (c .if1 .left) in
-    (search needs, r .0, r .1)
+    let l = now (a .region) in
+    let n = a .w + a .w in
+    shown-merged (a .w) (now (a .f)) l (a .k) (r .first-words .result) (r .first-words .ensures) (t .if1 .taken) _
+    (merged-back (eqb (r .first-words .result % 2) 1) (a .w) (entry r) (entry r * n + n - entry r * n) (now (a .f)) l
+    (m .merge .last .1 .1 .1 .0) (omega arith) (m .merge .ensures))
 
-add-end : tie.Need-add-end Inv-loop μ-loop
+add-end : tie.Need-add-end
 add-end c = search needs
 
-mul-end : tie.Need-mul-end Inv-loop μ-loop
+mul-end : tie.Need-mul-end
 mul-end c = search needs
 
-copy-to-requires : tie.Need-copy-to-requires Inv-loop μ-loop
-copy-to-requires c κs =
-    let e = ap length (c .before .before .loop .inv .1) in
-    omega (arith, e, c .before .before .before .before .before .pre)
+copy-to-requires : tie.Need-copy-to-requires
+copy-to-requires c κs = search needs
 
-add-t11 : tie.Need-add-t11 Inv-loop μ-loop
-add-t11 c = omega (arith, small (c .before .before .before .before .before .before .before .before))
+-- the number of a new entry's link fits
+abbrev ended : tie.After-slice-known3 → tie.After-first-words
+ended c = c .before .before .before .before .before
 
-add-t15 : tie.Need-add-t15 Inv-loop μ-loop
-add-t15 c = omega (arith, small (c .before .before .before .before .before .before .before .before))
-
-mul-t16 : tie.Need-mul-t16 Inv-loop μ-loop
-mul-t16 c = omega (arith, small (c .before .before .before .before .before .before .before .before))
-
-same-length-2 : tie.Need-same-length-2 Inv-loop μ-loop
-same-length-2 c = let e = ap length (c .before .before .before .before .before .loop .inv .1) in search needs
-
-returns-2 : tie.Need-returns-2 Inv-loop μ-loop
-returns-2 c =
-    let l = c .before .before .before .before .before in
-    let s = c .before .before .before .before .before .before .before .before in
+small : (c : tie.After-slice-known3) → 2 * (begun (ended c) .args .k + 1) < 2 ^ 64
+small c =
+    let s = begun (ended c) in
     let a = s .args in
-    let e = le-antisymm (l .loop .inv .0) (c .before .before .before .before .loop-test .left) in
-    let r = shown-end (a .w) (a .f .now) (a .region .now) (a .k) (s .pre .1 .0)
-    (subst (Passed (a .w) (a .f .now) (a .region .now) (a .k)) e (l .loop .inv .2)) in (
-      r .0,
-      (
-        r .1 .0,
-        c .before .before .copy-to .ensures ∙ ap (λ m. splice m (a .k * (a .w + a .w)) (a .f .now)) (l .loop .inv .1)
-            ∙ r .1 .1,
-      ),
-    )
+    omega (arith, twice-le (a .k + 1) (a .w) (length (now (a .region))) (s .pre .0 .0) (s .pre .1 .1))
+
+add-t20 : tie.Need-add-t20
+add-t20 c = omega (arith, small c)
+
+add-t24 : tie.Need-add-t24
+add-t24 c = omega (arith, small c)
+
+mul-t25 : tie.Need-mul-t25
+mul-t25 c = omega (arith, small c)
+
+same-length-2 : tie.Need-same-length-2
+same-length-2 c = search needs
+
+returns-2 : tie.Need-returns-2
+returns-2 c =
+    let y = c .before .before in
+    let e = y .before .before in
+    let r = e .before in
+    let s = begun r in
+    let a = s .args in
+    let n = shown-new (a .w) (now (a .f)) (now (a .region)) (a .k) (r .first-words .result) (r .first-words .ensures) (e .if1 .left) (s .pre .1 .0) in
+    (n .0, (n .1 .0, y .copy-to .ensures ∙ n .1 .1))
 
 pub along-spec : {M : Type 1} → statement M
 along-spec =
     tie.close
     (tie.spec
-    Inv-loop
-    μ-loop
-    loop-holds
-    try-entry-requires
+    first-words-requires
+    sub-a
+    add-a
+    mul-a
+    add-b
+    add-b-2
+    sub-merge
+    part-merge-start
+    part-merge-end
+    merge-requires
     same-length
     returns
-    add-e
-    loop-less
-    loop-again
     add-end
     mul-end
     copy-to-requires
-    add-t11
-    add-t15
-    mul-t16
+    add-t20
+    add-t24
+    mul-t25
     same-length-2
     returns-2)

@@ -10,7 +10,7 @@ use lib.Seq.{length-take-le}
 use Rattle.reorder.specs.Sizes.{width}
 use Rattle.reorder.proofs.Shifts.{width-met}
 use Rattle.fill.proofs.Parts.PartHalves.{width-pos}
-use Rattle.fill.proofs.Linking.TriedEntry.{twice-le}
+use Rattle.fill.proofs.Linking.First.{twice-le}
 use Rattle.fill.proofs.Buffers.ExchangedPlanes.{plane-fits, exchangedTo, exchanged-none, exchanged-more, exchanged-all}
 use Rattle.fill.proofs.Buffers.ExchangedPlanes.{length-exchanged-to}
 use Rattle.fill.proofs.exchange.exchange_parts.Statement.{statement}

@@ -23,7 +23,7 @@ width-of-requires c κs = search needs
 met : (c : tie.After-width-of) → c .width-of .result ≡ width (c .before .before .before .args .d + 1)
 met c =
     let s = c .before .before .before in
-    c .width-of .ensures ∙ width-met (s .args .d + 1) (omega (arith, s .pre .0))
+    c .width-of .ensures ∙ width-met (s .args .d + 1) (omega (arith, s .pre .0 .1))
 
 wide : (c : tie.After-width-of) → c .width-of .result ≡ width (suc (c .before .before .before .args .d))
 wide c = met c ∙ ap width (add-one (c .before .before .before .args .d))
@@ -34,25 +34,28 @@ add-end c = omega (arith, wide c)
 add-end-2 : tie.Need-add-end-2
 add-end-2 c = omega (arith, wide c)
 
-sub-take-half : tie.Need-sub-take-half
-sub-take-half c = search needs
+sub-take-bytes : tie.Need-sub-take-bytes
+sub-take-bytes c = search needs
 
-part-take-half-start : tie.Need-part-take-half-start
-part-take-half-start c = search needs
+part-take-bytes-start : tie.Need-part-take-bytes-start
+part-take-bytes-start c = search needs
 
-part-take-half-end : tie.Need-part-take-half-end
-part-take-half-end c = omega (arith, wide c)
+part-take-bytes-end : tie.Need-part-take-bytes-end
+part-take-bytes-end c = omega (arith, wide c)
 
-take-half-requires : tie.Need-take-half-requires
-take-half-requires c κs =
+take-bytes-requires : tie.Need-take-bytes-requires
+take-bytes-requires c κs =
     let r = c .before .before in
     let s = r .before .before .before in
     let a = s .args in (
-      s .pre .0,
+      s .pre .0 .0,
       (
-        ap length (part-is (a .d) (a .a) (r .width-of .result) (a .work .now) (met r))
-            ∙ length-part (suc (a .d)) (a .a) (a .work .now) (s .pre .1 .0),
-        s .pre .1 .1,
+        s .pre .0 .1,
+        (
+          ap length (part-is (a .d) (a .a) (r .width-of .result) (a .work .now) (met r))
+              ∙ length-part (suc (a .d)) (a .a) (a .work .now) (s .pre .1 .0),
+          s .pre .1 .1,
+        ),
       ),
     )
 
@@ -64,7 +67,7 @@ returns c =
     let t = c .before .before in
     let r = t .before .before .before in
     let a = r .before .before .before .args in
-    t .take-half .ensures
+    t .take-bytes .ensures
     ∙ ap (λ (y : List ℕ). halfPart (a .b) (a .d) y ++ drop (width (a .d) + width (a .d)) (a .cand .now))
     (part-is (a .d) (a .a) (r .width-of .result) (a .work .now) (met r))
 
@@ -76,9 +79,9 @@ half-at-spec =
     width-of-requires
     add-end
     add-end-2
-    sub-take-half
-    part-take-half-start
-    part-take-half-end
-    take-half-requires
+    sub-take-bytes
+    part-take-bytes-start
+    part-take-bytes-end
+    take-bytes-requires
     same-length
     returns)

@@ -15,7 +15,7 @@ link-part-requires-2 c κs =
     let h = c .before .before .before in
     let s = h .before .before .before .before .before in
     let a = s .args in
-    let i = second-room (a .d) (a .to) (a .k) (a .l) (a .work .now) (s .pre .1 .0 .0) (s .pre .1 .1) (a .f .now) (s .pre .0 .1)
+    let i = second-room (a .d) (a .to) (a .k) (a .l) (a .work .now) (s .pre .1 .0 .0) (s .pre .1 .1 .0) (a .f .now) (s .pre .0 .1)
     (s .pre .1 .0 .1) (h .link-part .result) (h .link-part .ensures .0) in
     (search needs, ((search needs, i), search needs))
 
@@ -28,7 +28,7 @@ returns c =
     let h = g .before .before .before .before in
     let s = h .before .before .before .before .before in
     let a = s .args in
-    both-linked (a .d) (a .to) (a .k) (a .l) (a .work .now) (s .pre .1 .0 .0) (s .pre .1 .1) (a .f .now) (s .pre .0 .1)
+    both-linked (a .d) (a .to) (a .k) (a .l) (a .work .now) (s .pre .1 .0 .0) (s .pre .1 .1 .0) (a .f .now) (s .pre .0 .1)
     (s .pre .1 .0 .1) (a .g .now) (s .pre .0 .2) (h .link-part .result) (g .link-part2 .result)
     (h .link-part .last .1 .1 .1 .1 .1 .0) (g .link-part2 .last .1 .1 .1 .1 .1 .0) (h .link-part .ensures) (g .link-part2 .ensures)
 

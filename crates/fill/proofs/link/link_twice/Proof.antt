@@ -19,7 +19,7 @@ returns c =
     let p = r .before .before .before .before in
     let s = p .before .before .before .before in
     let a = s .args in
-    twice-linked (a .d) (a .to) (a .k) (a .l) (a .work .now) (s .pre .1 .0 .0) (s .pre .1 .1) (a .f .now) (s .pre .0 .1) (s .pre .1 .0 .1)
+    twice-linked (a .d) (a .to) (a .k) (a .l) (a .work .now) (s .pre .1 .0 .0) (s .pre .1 .1 .0) (a .f .now) (s .pre .0 .1) (s .pre .1 .0 .1)
     (p .link-part .result) (p .link-part .last .1 .1 .1 .1 .1 .0) (r .repeat-link .last .1 .0) (p .link-part .ensures)
     (r .repeat-link .ensures)
 

@@ -58,8 +58,16 @@ level-requires c κs =
     let a = s .args in
     let g = l .inv in
     let t = counted-asks (a .p) (a .d) (a .above) (now (a .work)) (s .pre .1 .0 .1) (top i) (l .e - 1) (l .l) (l .a) (l .to) (l .k)
-    (l .work) (l .counts) (down i) in
-    (omega (trialSizes, s .pre .0 .0, g .levels), (g .apart, (t .0, t .1)))
+    (l .work) (l .counts) (down i) in (
+      omega (trialSizes, s .pre .0 .0, g .levels),
+      (
+        g .apart,
+        (
+          t .0,
+          (t .1, (omega (trialSizes, s .pre .1 .0 .1, g .same, t .0 .0), omega (trialSizes, s .pre .1 .0 .1, g .same, t .0 .1))),
+        ),
+      ),
+    )
 
 -- the links lie in the work buffer
 links-there : (c : tie.In-loop Inv-loop μ-loop) → levelLinksAt + 4 * c .before .loop .k ≤ length (c .before .loop .work)

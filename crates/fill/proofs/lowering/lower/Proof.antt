@@ -34,8 +34,22 @@ level-requires c κs =
     let k = a .kept in
     let r = x .exchange-parts in
     let t = level-asks (a .d) (k .from) (k .entries) (now (a .work)) (s .pre .1 .0 .0) (s .pre .1 .0 .1) (s .pre .1 .1 .0) (s .pre .1 .1 .1)
-    (r .last .1 .1 .1 .0) (r .ensures) (r .kept .1 .1 .1 .0) in
-    (omega (trialSizes, s .pre .0 .0), (regions-apart (k .from) (s .pre .1 .0 .0), (t .0, t .1)))
+    (r .last .1 .1 .1 .0) (r .ensures) (r .kept .1 .1 .1 .0) in (
+      omega (trialSizes, s .pre .0 .0),
+      (
+        regions-apart (k .from) (s .pre .1 .0 .0),
+        (
+          t .0,
+          (
+            t .1,
+            (
+              omega (trialSizes, s .pre .1 .0 .1, r .kept .1 .1 .1 .0, t .0 .0),
+              omega (trialSizes, s .pre .1 .0 .1, r .kept .1 .1 .1 .0, t .0 .1),
+            ),
+          ),
+        ),
+      ),
+    )
 
 differing-pairs-requires : tie.Need-differing-pairs-requires
 differing-pairs-requires c κs =

@@ -1,0 +1,4 @@
+pub mod Bytes
+pub mod HalfWords
+pub mod PartWords
+pub mod WholeWords
