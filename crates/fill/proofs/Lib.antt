@@ -4,6 +4,4 @@ pub mod Counting
 pub mod Descents
 pub mod Linking
 pub mod Lowered
-pub mod Parts
 pub mod Room
-pub mod Wordwise

@@ -1,10 +1,1 @@
-pub mod Along
-pub mod First
-pub mod LinkedHalf
-pub mod LinkedHalves
 pub mod LinkedOutputs
-pub mod LinkedPair
-pub mod NarrowEntry
-pub mod NarrowHalves
-pub mod TreeLevel
-pub mod Twice

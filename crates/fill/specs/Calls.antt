@@ -21,7 +21,7 @@ use Rattle.table.specs.State.{orderOf, stageOf, isNothing}
 use Rattle.table.specs.Calls.{planeSize}
 use Rattle.fill.specs.declared.Levels.{Levels}
 use Rattle.fill.specs.Work.{workSize, traceWork, trialsZero, zeroWork}
-use Rattle.fill.specs.inner.Splice.{splice}
+use Rattle.matching.specs.Splice.{splice}
 
 -- the table in the lent bytes
 abbrev pub heldTable : State → List ℕ → List ℕ → Table

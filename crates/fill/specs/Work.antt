@@ -2,31 +2,18 @@
 -- Assumes nothing.
 use mathlib.Core.Bool.{cond}
 use mathlib.Core.List.{List, [], _∷_, _++_}
-use Prim.Native.Nat.{ℕ, suc, _+_, _*_, _-_, _/_, _%_}
+use Prim.Native.Nat.{ℕ, _*_, _-_}
 use lib.Dec.{leb}
 use lib.ListN.{length, drop, replicate}
-use Rattle.diagram.specs.Lists.{digit}
-use Rattle.diagram.specs.Fill.{Link, const, entry}
+use Rattle.diagram.specs.Fill.{Link}
+use Rattle.matching.specs.Links.{regionSize, linkBytes}
 
--- the bytes of the work buffer that a call uses, of a region for one level's entries, and where the links begin: behind two regions
+-- the bytes of the work buffer that a call uses, and where the links begin: behind two regions for the levels' entries
 unfoldable pub workSize : ℕ
 workSize = 32768
 
-abbrev pub regionSize : ℕ
-regionSize = 4096
-
 unfoldable pub linksAt : ℕ
 linksAt = 2 * regionSize
-
--- a link as a number: 0 and 1 the constants, then two an entry, plain and inverted
-abbrev pub linkNumber : Link → ℕ
-linkNumber (const v) = digit v
-linkNumber (entry k i) = 2 * suc k + digit i
-
--- links as 16-bit numbers, low byte first
-abbrev pub linkBytes : List Link → List ℕ
-linkBytes [] = []
-linkBytes (k ∷ ks) = linkNumber k % 256 ∷ linkNumber k / 256 % 256 ∷ linkBytes ks
 
 abbrev pub allLinks : List (List Link) → List Link
 allLinks [] = []

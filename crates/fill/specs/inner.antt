@@ -1,11 +1,4 @@
-pub mod Splice
-pub mod Bytes
-pub mod Parts
-pub mod Found
-pub mod Level
 pub mod Descent
 pub mod Counts
 pub mod Filling
-pub mod Words
-pub mod Exchange
 pub mod Lowering

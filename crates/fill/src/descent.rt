@@ -1,8 +1,8 @@
 // The way down: level after level the entries' halves are linked, their parts in two regions in turn, until no entry is left.
-use crate::REGION;
-use crate::level::level;
+use crate::fitting::level;
 use crate::outputs::zero;
 use diagram::VARIABLES;
+use matching::REGION;
 ghost use mathlib.Core.Path.{_≡_};
 ghost use mathlib.Core.Logic.{_⊎_};
 ghost use mathlib.Core.List.{[], _++_};
@@ -11,10 +11,10 @@ ghost use lib.Dec.{T};
 ghost use lib.ListN.{length, replicate};
 ghost use Rattle.diagram.specs.Bound.{mostVariables};
 ghost use Rattle.reorder.specs.Sizes.{width};
-ghost use Rattle.fill.specs.Work.{workSize, regionSize, linksAt, linkBytes, allLinks};
-ghost use Rattle.fill.specs.inner.Splice.{splice};
-ghost use Rattle.fill.specs.inner.Level.{partsAt, written};
-ghost use Rattle.fill.specs.inner.Words.{wordSize};
+ghost use Rattle.matching.specs.Links.{regionSize, wordSize, linkBytes};
+ghost use Rattle.fill.specs.Work.{workSize, linksAt, allLinks};
+ghost use Rattle.matching.specs.Splice.{splice};
+ghost use Rattle.matching.specs.Level.{partsAt, written};
 ghost use Rattle.fill.specs.Calls.{perLevel};
 ghost use Rattle.fill.specs.inner.Descent.{levelBelow, linksBelow, countsBelow, roomy, holding, linksUpTo};
 

@@ -1,26 +1,16 @@
 // Filling and counting in a lent work buffer (document 01, section 3).
-mod bytes;
 mod cells;
-mod copy;
 mod descent;
-mod entries;
-mod exchange;
 mod filling;
-mod halves;
-mod level;
-mod link;
+mod fitting;
 mod lowering;
-mod narrow;
-mod narrow_level;
 mod outputs;
-mod part;
-mod wide;
-mod words;
 
 use crate::filling::fill_held;
 use crate::lowering::try_held;
 use crate::outputs::zero;
 use diagram::VARIABLES;
+use matching::REGION;
 use table::Answer;
 use table::PLANE;
 use table::State;
@@ -31,10 +21,8 @@ ghost use Rattle.fill.specs.Calls.{countAnswer, countWork, levelsOf, lin
 ghost use Rattle.fill.specs.Calls.{trialsAnswer, trialsCounts, trialsWork};
 ghost use Rattle.fill.specs.inner.Filling.{refusedLevels};
 
-// The bytes of a region for one level's entries, where the links begin behind two regions, and the bytes of the work buffer;
-// specs/Work.antt has the definitions, `regionSize`, `linksAt` and `workSize`.
-const REGION: usize = 4096;
-
+// Where the links begin, behind two regions, and the bytes of the work buffer; specs/Work.antt has the definitions, `linksAt` and
+// `workSize`.
 pub const LINKS: usize = 2 * REGION;
 
 pub const WORK: usize = 32768;

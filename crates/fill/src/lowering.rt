@@ -1,11 +1,11 @@
 // The top variable of an order at each level in turn. The entries of the levels above it are kept, in two regions in turn; below it the
 // levels are made from them in two regions of their own, and only counted.
-use crate::REGION;
 use crate::cells::differing_pairs;
-use crate::exchange::exchange_parts;
-use crate::level::level;
+use crate::fitting::exchange_parts;
+use crate::fitting::level;
 use crate::outputs::link_outputs;
 use diagram::VARIABLES;
+use matching::REGION;
 use reorder::rows::row_map;
 use table::State;
 ghost use mathlib.Core.Path.{_≡_};
@@ -17,10 +17,11 @@ ghost use lib.ListN.{length, set, take, drop};
 ghost use Rattle.diagram.specs.Bound.{mostVariables};
 ghost use Rattle.diagram.specs.inner.Trace.{differing};
 ghost use Rattle.table.specs.State.{stageOf, isNothing};
-ghost use Rattle.fill.specs.Work.{workSize, regionSize, linksAt, trialsSize};
+ghost use Rattle.matching.specs.Links.{regionSize};
+ghost use Rattle.fill.specs.Work.{workSize, linksAt, trialsSize};
 ghost use Rattle.fill.specs.Calls.{perLevel, countsSize, triedCounts};
-ghost use Rattle.fill.specs.inner.Splice.{splice};
-ghost use Rattle.fill.specs.inner.Level.{partsAt};
+ghost use Rattle.matching.specs.Splice.{splice};
+ghost use Rattle.matching.specs.Level.{partsAt};
 ghost use Rattle.fill.specs.inner.Descent.{roomy};
 ghost use Rattle.fill.specs.inner.Lowering.{firstParts, loweredBelow, countsFrom};
 

@@ -1,6 +1,6 @@
 // Level 0: the candidates are the outputs, gathered under the order, and their links are the first in the work buffer.
 use crate::LINKS;
-use crate::link::link_part;
+use crate::fitting::link_part;
 use reorder::ROWS;
 use reorder::gather::gather_output;
 use reorder::width::width_of;
@@ -11,10 +11,11 @@ ghost use lib.ListN.{length, replicate};
 ghost use Rattle.diagram.specs.Lists.{upTo};
 ghost use Rattle.diagram.specs.Bound.{mostVariables, mostOutputs};
 ghost use Rattle.reorder.specs.Sizes.{width};
-ghost use Rattle.fill.specs.Work.{workSize, regionSize, linksAt};
-ghost use Rattle.fill.specs.inner.Parts.{levelParts};
-ghost use Rattle.fill.specs.inner.Splice.{splice};
-ghost use Rattle.fill.specs.inner.Level.{partsAt, written};
+ghost use Rattle.matching.specs.Links.{regionSize};
+ghost use Rattle.fill.specs.Work.{workSize, linksAt};
+ghost use Rattle.matching.specs.Parts.{levelParts};
+ghost use Rattle.matching.specs.Splice.{splice};
+ghost use Rattle.matching.specs.Level.{partsAt, written};
 ghost use Rattle.reorder.specs.Gather.{gatheredPart};
 
 // Writes count zeros, from byte from on.

@@ -17,7 +17,7 @@ use Rattle.diagram.specs.Network.{reference}
 use Rattle.diagram.specs.inner.Trace.{sameLink, differing, linkRef, entryRefs, entryNodes}
 use Rattle.diagram.proofs.Bools.{split}
 use Rattle.diagram.proofs.Rising.{AllValid}
-use Rattle.fill.specs.Work.{linkNumber}
+use Rattle.matching.specs.Links.{linkNumber}
 use Rattle.lent.specs.Lent.{numbersOf}
 use Rattle.network.specs.inner.Levels.{storedAt, putStored, refAt, Made, passed, noded, entryMade, levelMade}
 use Rattle.network.proofs.Words.{Outside, same-word, outside-none, outside-join, outside-put, word-put}

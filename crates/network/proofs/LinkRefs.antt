@@ -17,7 +17,7 @@ use Rattle.diagram.specs.inner.Trace.{opposite, sameLink, linkRef}
 use Rattle.diagram.proofs.Bools.{split, to-T, beq→eq}
 use Rattle.diagram.proofs.Rising.{Valid, AllValid}
 use Rattle.diagram.proofs.Bits.{digit-le, eqb-digit}
-use Rattle.fill.specs.Work.{linkNumber}
+use Rattle.matching.specs.Links.{linkNumber}
 use Rattle.network.specs.inner.Levels.{storedAt, refAt}
 use Rattle.network.proofs.Words.{same-word}
 

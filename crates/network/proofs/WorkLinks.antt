@@ -11,9 +11,10 @@ use lib.Seq.{ext-getD, getD-drop, getD-at, drop-at}
 use Rattle.diagram.specs.Fill.{Link, const, entry}
 use Rattle.diagram.proofs.Rising.{Valid, AllValid}
 use Rattle.diagram.proofs.Bits.{digit-le}
-use Rattle.fill.specs.Work.{linkNumber}
-use Rattle.fill.specs.Work.{workSize, linksAt, linkBytes, allLinks, traceWork, zeroWork, clearedWork}
-use Rattle.fill.proofs.Buffers.PartLengths.{length-links}
+use Rattle.matching.specs.Links.{linkNumber}
+use Rattle.matching.specs.Links.{linkBytes}
+use Rattle.fill.specs.Work.{workSize, linksAt, allLinks, traceWork, zeroWork, clearedWork}
+use Rattle.matching.proofs.Buffers.PartLengths.{length-links}
 use Rattle.fill.proofs.Room.LinksRoom.{linksLimit}
 use Rattle.fill.proofs.Buffers.Sizes.{work-size}
 use Rattle.network.specs.inner.Levels.{storedLimit, storedAt}

@@ -19,7 +19,8 @@ ghost use lib.ListN.{length, take};
 ghost use Rattle.diagram.specs.Bound.{mostVariables, mostOutputs};
 ghost use Rattle.diagram.specs.inner.Trace.{differing};
 ghost use Rattle.diagram.specs.inner.Exchange.{both, entriesAfter, linkInto, entriesFrom, linksFrom, halfPair, halfPairs, exchangedTrace};
-ghost use Rattle.fill.specs.Work.{workSize, linksAt, linkNumber, allLinks};
+ghost use Rattle.matching.specs.Links.{linkNumber};
+ghost use Rattle.fill.specs.Work.{workSize, linksAt, allLinks};
 ghost use Rattle.network.specs.inner.Levels.{storedLimit, putStored};
 ghost use Rattle.network.specs.inner.Exchange.{pairLimit, mostPairs, pairOf, pairsIn, lentAt, slots, Seen, Shows, putLinks, Counted};
 

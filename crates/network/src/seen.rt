@@ -11,7 +11,7 @@ ghost use lib.Dec.{T};
 ghost use lib.ListN.{length, getD};
 ghost use Rattle.diagram.specs.Lists.{distinct, index};
 ghost use Rattle.diagram.specs.inner.Exchange.{oppositePair, normalPair, sameClass, constantPair, entriesAfter, linkInto};
-ghost use Rattle.fill.specs.Work.{linkNumber};
+ghost use Rattle.matching.specs.Links.{linkNumber};
 ghost use Rattle.network.specs.inner.Levels.{storedLimit};
 ghost use Rattle.network.specs.inner.Exchange.{pairLimit, pairOf, pairsIn, slots, slotOf, Seen, Shows};
 

@@ -22,8 +22,8 @@ use Rattle.table.specs.State.{goodHeading, orderOf, stageOf, isNothing, reorder
 use Rattle.table.proofs.Held.{stage-good, heading-inputs, heading-order}
 use Rattle.fill.specs.Work.{trialsZero}
 use Rattle.fill.specs.Calls.{heldTable, enough, countsSize, trialCounts, triedCounts, trialsCounts, trialsWork, countsOf}
-use Rattle.fill.specs.inner.Splice.{splice}
-use Rattle.fill.proofs.Buffers.Splice.{length-splice}
+use Rattle.matching.specs.Splice.{splice}
+use Rattle.matching.proofs.Buffers.Splice.{length-splice}
 use Rattle.fill.proofs.Calls.TriedCounts.{counts-size, put-here, tried-at, tried-kept, trials-counts, trials-work, counts-cost}
 use Rattle.sift.specs.inner.Counts.{countsUnder, MovedCounts}
 use Rattle.sift.specs.inner.Trials.{costAt}

@@ -6,8 +6,8 @@ use Prim.Native.Nat.{ℕ, _+_, _-_, _≤_, _<_}
 use native.Mathlib.Omega.{arith}
 use lib.ListN.{length, set, take, drop, replicate, length-append, length-replicate, replicate-append-replicate}
 use lib.Seq.{take-at, drop-at}
-use Rattle.fill.specs.inner.Splice.{splice}
-use Rattle.fill.proofs.Buffers.Splice.{set-end, splice-same}
+use Rattle.matching.specs.Splice.{splice}
+use Rattle.matching.proofs.Buffers.Splice.{set-end, splice-same}
 
 -- one zero more
 pub zeros-more : (l : List ℕ) (k j : ℕ) (m m′ : List ℕ) → k + j < length l → m ≡ splice l k (replicate j 0) → m′ ≡ set m (k + j) 0

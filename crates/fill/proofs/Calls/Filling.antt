@@ -24,20 +24,21 @@ use Rattle.table.specs.Stream.{tableOf}
 use Rattle.table.proofs.Answers.{stream-small}
 use Rattle.reorder.specs.Sizes.{width}
 use Rattle.reorder.specs.inner.Pack.{encode}
-use Rattle.fill.specs.inner.Parts.{LevelParts, levelParts, flat}
-use Rattle.fill.specs.Work.{workSize, linksAt, linkBytes, allLinks, zeroWork, traceWork}
-use Rattle.fill.specs.inner.Splice.{splice}
-use Rattle.fill.specs.inner.Level.{partsAt, written}
+use Rattle.matching.specs.Parts.{LevelParts, levelParts, flat}
+use Rattle.matching.specs.Links.{linkBytes}
+use Rattle.fill.specs.Work.{workSize, linksAt, allLinks, zeroWork, traceWork}
+use Rattle.matching.specs.Splice.{splice}
+use Rattle.matching.specs.Level.{partsAt, written}
 use Rattle.reorder.specs.Gather.{rowMap, gatheredPart}
 use Rattle.fill.specs.Calls.{perLevel, entryCounts}
 use Rattle.fill.specs.inner.Descent.{linksBelow, countsBelow, roomy, holding, linksUpTo}
 use Rattle.fill.specs.inner.Counts.{countsAt, linksEnd}
 use Rattle.reorder.proofs.Gathered.{gathered-encode}
 use Rattle.fill.proofs.Buffers.Sizes.{sizes}
-use Rattle.fill.proofs.Linking.TreeLevel.{levelPart, level-bytes}
+use Rattle.matching.proofs.Linking.TreeLevel.{levelPart, level-bytes}
 use Rattle.reorder.proofs.Pack.{encode-length}
-use Rattle.fill.proofs.Buffers.PartLengths.{Long, length-links, links-append}
-use Rattle.fill.proofs.Buffers.WrittenLevel.{Fit}
+use Rattle.matching.proofs.Buffers.PartLengths.{Long, length-links, links-append}
+use Rattle.matching.proofs.Buffers.WrittenLevel.{Fit}
 use Rattle.fill.proofs.Buffers.HeldParts.{holding-past, held-parts, held-bytes, held-behind, held-past, held-trace}
 use Rattle.fill.proofs.Counting.PerLevel.{per-level-take, sum-per-level}
 use Rattle.fill.proofs.Descents.LevelsBelow.{room-first}

@@ -16,8 +16,9 @@ use Rattle.table.specs.declared.Answer.the-variants.{Done}
 use Rattle.table.specs.declared.State.{State}
 use Rattle.table.specs.State.{orderOf, stageOf, isNothing}
 use Rattle.table.proofs.Held.{few-inputs, few-outputs}
-use Rattle.fill.specs.Work.{workSize, linksAt, linkBytes, allLinks, zeroWork}
-use Rattle.fill.specs.inner.Level.{partsAt}
+use Rattle.matching.specs.Links.{linkBytes}
+use Rattle.fill.specs.Work.{workSize, linksAt, allLinks, zeroWork}
+use Rattle.matching.specs.Level.{partsAt}
 use Rattle.fill.specs.Calls.{heldTable, drawnOutputs, perLevel}
 use Rattle.fill.specs.inner.Descent.{linksBelow, countsBelow, roomy, holding, linksUpTo}
 use Rattle.fill.specs.inner.Counts.{countsAt, linksEnd}

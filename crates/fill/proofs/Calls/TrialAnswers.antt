@@ -16,7 +16,7 @@ use Rattle.table.specs.State.{stageOf, isNothing}
 use Rattle.table.specs.Calls.{planeSize}
 use Rattle.fill.specs.Work.{workSize, trialsSize, trialsZero}
 use Rattle.fill.specs.Calls.{enough, countsSize, triedCounts, trialsAnswer, trialsCounts, trialsWork}
-use Rattle.fill.specs.inner.Splice.{splice}
+use Rattle.matching.specs.Splice.{splice}
 use Rattle.fill.proofs.Calls.Answers.{few-values, few-care, few-work, is-enough}
 
 -- the bytes that trials use, made zero

@@ -21,10 +21,10 @@ use Rattle.table.specs.State.{goodHeading, stageOf, isNothing}
 use Rattle.table.proofs.Held.{heading-inputs, heading-outputs}
 use Rattle.fill.specs.Work.{workSize, trialsSize, trialsZero, zeroWork}
 use Rattle.fill.specs.Calls.{enough, perLevel, countsSize, countsOf, trialCounts, triedCounts, trialsAnswer, trialsCounts, trialsWork}
-use Rattle.fill.specs.inner.Splice.{splice}
+use Rattle.matching.specs.Splice.{splice}
 use Rattle.fill.proofs.Buffers.Sizes.{sizes}
-use Rattle.fill.proofs.Buffers.Splice.{length-splice}
-use Rattle.fill.proofs.Buffers.Windows.{drop-here, drop-behind, window-before}
+use Rattle.matching.proofs.Buffers.Splice.{length-splice}
+use Rattle.matching.proofs.Buffers.Windows.{drop-here, drop-behind, window-before}
 use Rattle.fill.proofs.Buffers.Zeros.{zeros-drop}
 use Rattle.fill.proofs.Calls.Filling.{cells-filled}
 

@@ -17,12 +17,13 @@ use Rattle.diagram.proofs.Bits.{digit-le}
 use Rattle.block.specs.Bits.{sumBelow}
 use Rattle.block.proofs.Sums.{sum-add, sum-cong}
 use Rattle.reorder.specs.Sizes.{width}
-use Rattle.fill.specs.inner.Parts.{alwaysPart, agreePart, alongParts, candidatePart, levelParts, offeredParts}
-use Rattle.fill.specs.Work.{regionSize, linkNumber, linkBytes, allLinks}
+use Rattle.matching.specs.Parts.{alwaysPart, agreePart, alongParts, candidatePart, levelParts, offeredParts}
+use Rattle.matching.specs.Links.{regionSize, linkNumber, linkBytes}
+use Rattle.fill.specs.Work.{allLinks}
 use Rattle.fill.specs.inner.Descent.{levelBelow, linksBelow, countsBelow, roomy}
 use Rattle.fill.specs.inner.Counts.{pairDiffers, differingPairs, countsAt, linksEnd}
-use Rattle.fill.proofs.Parts.PartHalves.{width-pos}
-use Rattle.fill.proofs.Buffers.PartLengths.{Long, length-links, candidate-grown, level-grown, long-offered}
+use Rattle.matching.proofs.Parts.PartHalves.{width-pos}
+use Rattle.matching.proofs.Buffers.PartLengths.{Long, length-links, candidate-grown, level-grown, long-offered}
 use Rattle.fill.proofs.Descents.LevelsBelow.{links-suc, counts-suc, bytes-suc, links-two, links-length, Room, room-suc, level-fits}
 
 -- numbers of links

@@ -9,11 +9,12 @@ use lib.Dec.{T, leb, leb→le, eqb→eq}
 use lib.ListN.{length, length-append}
 use Rattle.diagram.proofs.Bools.{and-l, and-r}
 use Rattle.reorder.specs.Sizes.{width}
-use Rattle.fill.specs.inner.Parts.{offeredParts}
-use Rattle.fill.specs.Work.{regionSize, linkBytes, allLinks}
+use Rattle.matching.specs.Parts.{offeredParts}
+use Rattle.matching.specs.Links.{regionSize, linkBytes}
+use Rattle.fill.specs.Work.{allLinks}
 use Rattle.fill.specs.inner.Descent.{levelBelow, linksBelow, countsBelow, roomy}
-use Rattle.fill.proofs.Buffers.PartLengths.{Long, level-grown, level-links, links-append, long-offered, count-offered}
-use Rattle.fill.proofs.Buffers.WrittenLevel.{Fit}
+use Rattle.matching.proofs.Buffers.PartLengths.{Long, level-grown, level-links, links-append, long-offered, count-offered}
+use Rattle.matching.proofs.Buffers.WrittenLevel.{Fit}
 
 pub links-suc : (d : ℕ) (parts : List (List ℕ))
     → linksBelow (suc d) parts ≡ levelBelow d parts .links ∷ linksBelow d (levelBelow d parts .parts)

@@ -11,11 +11,11 @@ use Rattle.diagram.proofs.Evened.{nextOf}
 use Rattle.diagram.proofs.Fill.{trace-zero, trace-suc}
 use Rattle.reorder.specs.Sizes.{width}
 use Rattle.reorder.specs.inner.Pack.{encode}
-use Rattle.fill.specs.inner.Parts.{LevelParts, levelParts}
+use Rattle.matching.specs.Parts.{LevelParts, levelParts}
 use Rattle.fill.specs.Calls.{entryCounts}
 use Rattle.fill.specs.inner.Descent.{levelBelow, linksBelow, countsBelow}
-use Rattle.fill.proofs.Parts.TreeHalves.{offered-bytes}
-use Rattle.fill.proofs.Linking.TreeLevel.{levelPart, level-bytes}
+use Rattle.matching.proofs.Parts.TreeHalves.{offered-bytes}
+use Rattle.matching.proofs.Linking.TreeLevel.{levelPart, level-bytes}
 use Rattle.fill.proofs.Descents.EntryCounts.{entries-zero, entries-suc}
 use Rattle.fill.proofs.Descents.LevelsBelow.{links-suc, counts-suc}
 

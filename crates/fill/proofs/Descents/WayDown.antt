@@ -10,15 +10,16 @@ use lib.ListN.{length, set, drop, replicate, length-append, length-drop}
 use lib.Seq.{length-take-le}
 use Rattle.diagram.specs.Bound.{mostVariables}
 use Rattle.reorder.specs.Sizes.{width}
-use Rattle.fill.specs.Work.{workSize, regionSize, linksAt, linkBytes, allLinks}
-use Rattle.fill.specs.inner.Splice.{splice}
-use Rattle.fill.specs.inner.Level.{partsAt, written}
+use Rattle.matching.specs.Links.{regionSize, wordSize, linkBytes}
+use Rattle.fill.specs.Work.{workSize, linksAt, allLinks}
+use Rattle.matching.specs.Splice.{splice}
+use Rattle.matching.specs.Level.{partsAt, written}
 use Rattle.fill.specs.Calls.{perLevel}
 use Rattle.fill.specs.inner.Descent.{levelBelow, linksBelow, countsBelow, roomy, holding, linksUpTo}
 use Rattle.fill.proofs.Buffers.Sizes.{sizes}
-use Rattle.fill.proofs.Buffers.Chunks.{length-chunks}
-use Rattle.fill.proofs.Buffers.PartLengths.{Long, long-chunks, length-links}
-use Rattle.fill.proofs.Buffers.WrittenLevel.{Fit}
+use Rattle.matching.proofs.Buffers.Chunks.{length-chunks}
+use Rattle.matching.proofs.Buffers.PartLengths.{Long, long-chunks, length-links}
+use Rattle.matching.proofs.Buffers.WrittenLevel.{Fit}
 use Rattle.fill.proofs.Descents.LevelsBelow.{counts-suc, bytes-suc, links-two, links-length, Room, room-suc, none-left, room-first}
 use Rattle.fill.proofs.Descents.LevelsBelow.{level-fits}
 use Rattle.fill.proofs.Buffers.HeldParts.{Region, region-end, region-other, regions-apart, held-parts, held-next, held-none}
@@ -99,19 +100,18 @@ module _ (n : ℕ) (all : List (List ℕ)) (before work : List ℕ) (big : workS
     pub going-asks : length m ≡ length work
         → ((from + regionSize ≤ regionSize - from) ⊎ ((regionSize - from) + regionSize ≤ from))
         × (((from + regionSize ≤ links) × ((regionSize - from) + regionSize ≤ links) × (links + 4 * k ≤ length m))
-        × ((k * (width (suc d) + width (suc d)) ≤ regionSize) × ((k + k) * (width d + width d) ≤ regionSize)))
+        × (((k * (width (suc d) + width (suc d)) ≤ regionSize) × ((k + k) * (width d + width d) ≤ regionSize))
+        × ((from + regionSize + wordSize ≤ length m) × ((regionSize - from) + regionSize + wordSize ≤ length m))))
     going-asks e =
         let r = going-room in
         let c = g .count in
-        let t = links-length d (g .parts) in (
+        let t = links-length d (g .parts) in
+        let here = region-end from (g .region) in
+        let there = region-end (regionSize - from) (region-other from (g .region)) in (
           regions-apart from (g .region),
           (
-            (
-              omega (sizes, region-end from (g .region), g .ends),
-              omega (sizes, region-end (regionSize - from) (region-other from (g .region)), g .ends),
-              omega (sizes, g .links-room, c),
-            ),
-            (rw c (r .here), rw c (r .next)),
+            (omega (sizes, here, g .ends), omega (sizes, there, g .ends), omega (sizes, g .links-room, c)),
+            ((rw c (r .here), rw c (r .next)), (omega (sizes, here), omega (sizes, there))),
           ),
         )
 

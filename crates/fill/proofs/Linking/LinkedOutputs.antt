@@ -9,16 +9,17 @@ use lib.ListN.{length}
 use Rattle.diagram.specs.Bound.{mostVariables, mostOutputs}
 use Rattle.diagram.specs.Lists.{upTo}
 use Rattle.diagram.proofs.UpTo.{length-map-upTo}
-use Rattle.fill.specs.Work.{workSize, regionSize, linksAt}
+use Rattle.matching.specs.Links.{regionSize}
+use Rattle.fill.specs.Work.{workSize, linksAt}
 use Rattle.reorder.specs.Sizes.{width}
-use Rattle.fill.specs.inner.Parts.{levelParts}
-use Rattle.fill.specs.inner.Level.{partsAt, written}
+use Rattle.matching.specs.Parts.{levelParts}
+use Rattle.matching.specs.Level.{partsAt, written}
 use Rattle.reorder.specs.Gather.{gatheredPart}
 use Rattle.reorder.proofs.Shifts.{part-size, width-room}
 use Rattle.reorder.proofs.Gathered.{length-gathered}
 use Rattle.fill.proofs.Buffers.Sizes.{sizes}
-use Rattle.fill.proofs.Buffers.PartLengths.{Long, level-grown}
-use Rattle.fill.proofs.Buffers.WrittenLevel.{written-none, level-step}
+use Rattle.matching.proofs.Buffers.PartLengths.{Long, level-grown}
+use Rattle.matching.proofs.Buffers.WrittenLevel.{written-none, level-step}
 
 long-map : {A : Type 0} (s : ℕ) (f : A → List ℕ) → ((x : A) → length (f x) ≡ s) → (xs : List A) → Long s (map f xs)
 long-map s f h [] = tt

@@ -12,18 +12,19 @@ use Rattle.diagram.proofs.Fill.{links-length}
 use Rattle.table.proofs.Answers.{stream-small}
 use Rattle.reorder.specs.Sizes.{width}
 use Rattle.reorder.specs.inner.Pack.{encode}
-use Rattle.fill.specs.Work.{workSize, regionSize, linksAt, linkBytes, trialsSize}
-use Rattle.fill.specs.inner.Parts.{LevelParts, levelParts, flat}
-use Rattle.fill.specs.inner.Splice.{splice}
-use Rattle.fill.specs.inner.Level.{partsAt, written}
-use Rattle.fill.proofs.Buffers.PartLengths.{length-links}
-use Rattle.fill.proofs.Buffers.Splice.{length-splice}
-use Rattle.fill.proofs.Buffers.Windows.{drop-behind}
-use Rattle.fill.proofs.Buffers.WrittenLevel.{Fit, fit-end, parts-under}
+use Rattle.matching.specs.Links.{regionSize, linkBytes}
+use Rattle.fill.specs.Work.{workSize, linksAt, trialsSize}
+use Rattle.matching.specs.Parts.{LevelParts, levelParts, flat}
+use Rattle.matching.specs.Splice.{splice}
+use Rattle.matching.specs.Level.{partsAt, written}
+use Rattle.matching.proofs.Buffers.PartLengths.{length-links}
+use Rattle.matching.proofs.Buffers.Splice.{length-splice}
+use Rattle.matching.proofs.Buffers.Windows.{drop-behind}
+use Rattle.matching.proofs.Buffers.WrittenLevel.{Fit, fit-end, parts-under}
 use Rattle.fill.proofs.Calls.Filling.{long-encode}
 use Rattle.fill.proofs.Descents.LevelsBelow.{room-first}
 use Rattle.fill.proofs.Descents.TreeDescent.{entriesOf, partsOf}
-use Rattle.fill.proofs.Linking.TreeLevel.{levelPart, level-bytes}
+use Rattle.matching.proofs.Linking.TreeLevel.{levelPart, level-bytes}
 use Rattle.fill.proofs.Lowered.TrialSizes.{trialSizes}
 use Rattle.fill.proofs.Room.RegionRoom.{Rows, roomy-filled}
 

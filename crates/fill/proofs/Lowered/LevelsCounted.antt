@@ -12,14 +12,15 @@ use Rattle.diagram.specs.Bound.{mostVariables}
 use Rattle.diagram.specs.Fill.{Link}
 use Rattle.diagram.specs.inner.Trace.{differing}
 use Rattle.reorder.specs.Sizes.{width}
-use Rattle.fill.specs.Work.{workSize, regionSize, linksAt, trialsSize}
+use Rattle.matching.specs.Links.{regionSize}
+use Rattle.fill.specs.Work.{workSize, linksAt, trialsSize}
 use Rattle.fill.specs.Calls.{perLevel}
-use Rattle.fill.specs.inner.Level.{partsAt, written}
+use Rattle.matching.specs.Level.{partsAt, written}
 use Rattle.fill.specs.inner.Descent.{levelBelow, linksBelow, roomy}
 use Rattle.fill.specs.inner.Counts.{differingPairs}
 use Rattle.fill.specs.inner.Lowering.{levelLinksAt, countsFrom}
-use Rattle.fill.proofs.Buffers.Chunks.{length-chunks}
-use Rattle.fill.proofs.Buffers.PartLengths.{Long, long-chunks}
+use Rattle.matching.proofs.Buffers.Chunks.{length-chunks}
+use Rattle.matching.proofs.Buffers.PartLengths.{Long, long-chunks}
 use Rattle.fill.proofs.Counting.PerLevel.{per-level-more}
 use Rattle.fill.proofs.Descents.LevelsBelow.{links-suc, Room, room-suc, room-first, level-fits}
 use Rattle.fill.proofs.Lowered.TrialSizes.{trialSizes}

@@ -10,19 +10,20 @@ use lib.ListN.{length, take, drop, length-append, length-drop, length-map}
 use lib.Seq.{length-take-le}
 use Rattle.diagram.specs.inner.Trace.{differing}
 use Rattle.reorder.specs.Sizes.{width}
-use Rattle.fill.specs.Work.{workSize, regionSize, trialsSize}
-use Rattle.fill.specs.inner.Parts.{LevelParts, chunks, flat}
-use Rattle.fill.specs.inner.Splice.{splice}
-use Rattle.fill.specs.inner.Level.{partsAt, written}
+use Rattle.matching.specs.Links.{regionSize}
+use Rattle.fill.specs.Work.{workSize, trialsSize}
+use Rattle.matching.specs.Parts.{LevelParts, chunks, flat}
+use Rattle.matching.specs.Splice.{splice}
+use Rattle.matching.specs.Level.{partsAt, written}
 use Rattle.fill.specs.inner.Descent.{levelBelow, roomy}
 use Rattle.fill.specs.inner.Counts.{differingPairs}
-use Rattle.fill.specs.inner.Exchange.{exchangedPlane, exchangedPart}
+use Rattle.matching.specs.Exchange.{exchangedPlane, exchangedPart}
 use Rattle.fill.specs.inner.Lowering.{levelLinksAt, loweredBelow}
-use Rattle.fill.proofs.Parts.PartExchange.{length-exchanged}
-use Rattle.fill.proofs.Buffers.Chunks.{length-chunks}
+use Rattle.matching.proofs.Parts.PartExchange.{length-exchanged}
+use Rattle.matching.proofs.Buffers.Chunks.{length-chunks}
 use Rattle.fill.proofs.Buffers.HeldParts.{Region, region-end, region-other}
-use Rattle.fill.proofs.Buffers.PartLengths.{Long, long-chunks, length-flat, chunks-flat}
-use Rattle.fill.proofs.Buffers.Windows.{drop-here, drop-behind}
+use Rattle.matching.proofs.Buffers.PartLengths.{Long, long-chunks, length-flat, chunks-flat}
+use Rattle.matching.proofs.Buffers.Windows.{drop-here, drop-behind}
 use Rattle.fill.proofs.Descents.LevelsBelow.{Room, room-suc, room-first}
 use Rattle.fill.proofs.Lowered.TrialSizes.{trialSizes}
 use Rattle.fill.proofs.Lowered.CountedLevel.{links-fit, level-held, level-behind, level-pairs}

@@ -14,9 +14,9 @@ use Rattle.diagram.proofs.Lowered.{exchange}
 use Rattle.diagram.proofs.LoweredCounts.{loweredNext, loweredCounts, lowered-one, lowered-suc, length-lowered-next}
 use Rattle.fill.specs.inner.Descent.{levelBelow}
 use Rattle.fill.specs.inner.Lowering.{loweredBelow}
-use Rattle.fill.proofs.Parts.PartExchange.{exchanged-parts}
+use Rattle.matching.proofs.Parts.PartExchange.{exchanged-parts}
 use Rattle.fill.proofs.Descents.TreeDescent.{entriesOf, partsOf, below-bytes}
-use Rattle.fill.proofs.Linking.TreeLevel.{levelPart}
+use Rattle.matching.proofs.Linking.TreeLevel.{levelPart}
 use Rattle.fill.proofs.Room.RegionRoom.{Rows, entry-rows}
 
 -- the lowered candidates have no more rows

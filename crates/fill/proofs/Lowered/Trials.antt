@@ -25,22 +25,23 @@ use Rattle.table.specs.declared.State.{State}
 use Rattle.table.specs.State.{orderOf, stageOf, isNothing}
 use Rattle.table.proofs.Held.{few-inputs, ordered}
 use Rattle.reorder.specs.Sizes.{width}
-use Rattle.fill.specs.Work.{workSize, regionSize, linksAt, trialsSize}
+use Rattle.matching.specs.Links.{regionSize}
+use Rattle.fill.specs.Work.{workSize, linksAt, trialsSize}
 use Rattle.fill.specs.Calls.{heldTable, drawnOutputs, perLevel, trialCounts, triedCounts}
-use Rattle.fill.specs.inner.Parts.{LevelParts, chunks}
-use Rattle.fill.specs.inner.Splice.{splice}
-use Rattle.fill.specs.inner.Level.{partsAt}
+use Rattle.matching.specs.Parts.{LevelParts, chunks}
+use Rattle.matching.specs.Splice.{splice}
+use Rattle.matching.specs.Level.{partsAt}
 use Rattle.fill.specs.inner.Descent.{linksBelow, roomy}
 use Rattle.fill.specs.inner.Lowering.{firstParts, loweredBelow, countsFrom}
 use Rattle.fill.proofs.Buffers.HeldParts.{Region, region-end, region-other}
-use Rattle.fill.proofs.Buffers.PartLengths.{chunks-take}
-use Rattle.fill.proofs.Buffers.Splice.{drop-take}
+use Rattle.matching.proofs.Buffers.PartLengths.{chunks-take}
+use Rattle.matching.proofs.Buffers.Splice.{drop-take}
 use Rattle.fill.proofs.Calls.Filling.{counts-traced}
 use Rattle.fill.proofs.Calls.HeldFilling.{few}
 use Rattle.fill.proofs.Counting.PerLevel.{per-level-more, per-level-take}
 use Rattle.fill.proofs.Descents.LevelsBelow.{room-first}
 use Rattle.fill.proofs.Descents.TreeDescent.{partsOf}
-use Rattle.fill.proofs.Linking.TreeLevel.{levelPart}
+use Rattle.matching.proofs.Linking.TreeLevel.{levelPart}
 use Rattle.fill.proofs.Lowered.FirstKept.{first-rows}
 use Rattle.fill.proofs.Lowered.LoweredTrees.{rows-lowered, lowered-bytes, lowered-top}
 use Rattle.fill.proofs.Lowered.TrialSizes.{trialSizes}

@@ -16,10 +16,10 @@ use Rattle.diagram.specs.Tree.{Tree}
 use Rattle.diagram.specs.Fill.{Row}
 use Rattle.diagram.proofs.Bools.{split, and-T}
 use Rattle.diagram.proofs.Evened.{nextOf, length-next}
-use Rattle.fill.specs.Work.{regionSize}
+use Rattle.matching.specs.Links.{regionSize}
 use Rattle.reorder.specs.Sizes.{width}
 use Rattle.reorder.specs.inner.Pack.{encode}
-use Rattle.fill.specs.inner.Parts.{LevelParts}
+use Rattle.matching.specs.Parts.{LevelParts}
 use Rattle.fill.specs.inner.Descent.{levelBelow, roomy}
 use Rattle.reorder.proofs.Pack.{width-small, width-suc, width-rows}
 use Rattle.fill.proofs.Room.EntriesRoom.{entries-candidates, entries-most, entries-none}

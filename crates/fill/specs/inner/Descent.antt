@@ -8,9 +8,10 @@ use lib.Dec.{eqb, leb}
 use lib.ListN.{length, take, drop}
 use Rattle.diagram.specs.Fill.{Link}
 use Rattle.reorder.specs.Sizes.{width}
-use Rattle.fill.specs.inner.Parts.{LevelParts, flat, offeredParts, levelParts}
-use Rattle.fill.specs.Work.{regionSize, linksAt, zeroWork}
-use Rattle.fill.specs.inner.Splice.{splice}
+use Rattle.matching.specs.Parts.{LevelParts, flat, offeredParts, levelParts}
+use Rattle.matching.specs.Links.{regionSize}
+use Rattle.fill.specs.Work.{linksAt, zeroWork}
+use Rattle.matching.specs.Splice.{splice}
 
 -- the level below entries of d + 1 variables: what their halves come to are its candidates
 abbrev pub levelBelow : ℕ → List (List ℕ) → LevelParts

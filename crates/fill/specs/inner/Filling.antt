@@ -12,7 +12,8 @@ use Rattle.table.specs.declared.State.{State}
 use Rattle.table.specs.State.{orderOf}
 use Rattle.fill.specs.declared.Levels.{Levels}
 use Rattle.reorder.specs.inner.Pack.{encode}
-use Rattle.fill.specs.Work.{linkBytes, traceWork}
+use Rattle.matching.specs.Links.{linkBytes}
+use Rattle.fill.specs.Work.{traceWork}
 use Rattle.fill.specs.Calls.{heldTable, drawnOutputs, entryCounts, perLevel}
 use Rattle.fill.specs.inner.Descent.{holding}
 

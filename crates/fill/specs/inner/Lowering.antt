@@ -9,11 +9,11 @@ use Rattle.diagram.specs.Fill.{level}
 use Rattle.diagram.specs.inner.Trace.{differing}
 use Rattle.table.specs.declared.State.{State}
 use Rattle.reorder.specs.inner.Pack.{encode}
-use Rattle.fill.specs.Work.{regionSize}
+use Rattle.matching.specs.Links.{regionSize}
 use Rattle.fill.specs.Calls.{drawnOutputs, perLevel}
-use Rattle.fill.specs.inner.Parts.{LevelParts}
+use Rattle.matching.specs.Parts.{LevelParts}
 use Rattle.fill.specs.inner.Descent.{levelBelow, linksBelow}
-use Rattle.fill.specs.inner.Exchange.{exchangedPart}
+use Rattle.matching.specs.Exchange.{exchangedPart}
 
 -- the outputs' entries, as bytes
 abbrev pub firstParts : State → List ℕ → List ℕ → List (List ℕ)

@@ -15,7 +15,7 @@ use Rattle.diagram.specs.inner.Trace.{sameLink, differing}
 use Rattle.diagram.specs.inner.Exchange.{Pair, sameClass, constantPair, entriesAfter, linkInto, entriesFrom, linksFrom, halfPair, halfPairs}
 use Rattle.diagram.proofs.Bools.{split}
 use Rattle.diagram.proofs.PairBounds.{linksFrom-length, halfPairs-length}
-use Rattle.fill.specs.Work.{linkNumber}
+use Rattle.matching.specs.Links.{linkNumber}
 use Rattle.network.specs.inner.Levels.{putStored}
 use Rattle.network.specs.inner.Exchange.{pairOf, pairsIn, slots, Shows, putLinks}
 use Rattle.network.proofs.LinkRefs.{numbers-same}

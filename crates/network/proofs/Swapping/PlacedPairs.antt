@@ -20,7 +20,7 @@ use Rattle.diagram.proofs.Lists.{index-lt}
 use Rattle.diagram.proofs.Numbers.{differ}
 use Rattle.diagram.proofs.Pairs.{pair-equality}
 use Rattle.diagram.proofs.Grown.{distinct-more}
-use Rattle.fill.specs.Work.{linkNumber}
+use Rattle.matching.specs.Links.{linkNumber}
 use Rattle.network.specs.inner.Exchange.{pairOf, pairsIn, slots, slotOf, Seen, Shows}
 use Rattle.network.proofs.Swapping.SeenPairs.{classesOf, index-class, has-class, distinct-class, index-none, pairs-length, pair-at}
 

@@ -6,7 +6,7 @@ use Prim.Native.Nat.{ℕ, _+_, _*_, _/_, _%_, _≤_}
 use native.Mathlib.Omega.{arith}
 use lib.ListN.{length, set, length-set}
 use Rattle.diagram.specs.Fill.{Link}
-use Rattle.fill.specs.Work.{linkNumber}
+use Rattle.matching.specs.Links.{linkNumber}
 use Rattle.network.specs.inner.Levels.{putStored}
 use Rattle.network.specs.inner.Exchange.{putLinks}
 use Rattle.network.proofs.Words.{Outside, outside-none, outside-join, outside-put, word-put, same-word}

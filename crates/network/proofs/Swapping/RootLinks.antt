@@ -9,7 +9,8 @@ use lib.Seq.{length-take-le}
 use Rattle.diagram.specs.inner.Exchange.{Pair, both, entriesAfter, linkInto, entriesFrom, linksFrom}
 use Rattle.diagram.proofs.Grown.{take-more}
 use Rattle.diagram.proofs.PairBounds.{linksFrom-length}
-use Rattle.fill.specs.Work.{linksAt, linkNumber}
+use Rattle.matching.specs.Links.{linkNumber}
+use Rattle.fill.specs.Work.{linksAt}
 use Rattle.network.specs.inner.Levels.{putStored}
 use Rattle.network.specs.inner.Exchange.{pairOf, pairsIn, slots, Shows, putLinks}
 use Rattle.network.proofs.Swapping.LevelLinks.{shows-as, shows-length, shows-none}

@@ -14,7 +14,7 @@ use Rattle.diagram.specs.inner.Exchange.{Pair, pair, normalPair, sameClass, lev
 use Rattle.block.specs.Bits.{sumBelow}
 use Rattle.table.specs.declared.Answer.the-variants.{Done}
 use Rattle.fill.specs.declared.Levels.{Levels}
-use Rattle.fill.specs.Work.{linkNumber}
+use Rattle.matching.specs.Links.{linkNumber}
 use Rattle.lent.specs.Lent.{lentNode}
 use Rattle.network.specs.inner.Levels.{storedLimit, putStored}
 

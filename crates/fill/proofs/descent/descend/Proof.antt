@@ -6,9 +6,7 @@ use mathlib.Core.Path.{_≡_, refl, ap, subst}
 use mathlib.Core.List.{List}
 use Prim.Native.Nat.{ℕ, suc, _+_, _*_, _-_, _≤_}
 use lib.ListN.{length, set}
-use Rattle.fill.specs.Work.{regionSize}
-use Rattle.fill.specs.inner.Level.{partsAt}
-use Rattle.fill.specs.inner.Words.{wordSize}
+use Rattle.matching.specs.Level.{partsAt}
 use Rattle.fill.specs.inner.Descent.{linksUpTo}
 use Rattle.fill.proofs.Buffers.Sizes.{sizes}
 use Rattle.fill.proofs.Buffers.HeldParts.{region-end}
@@ -90,10 +88,7 @@ level-below-requires c κs =
     let t = going-asks (s .args .n) (top i) (first i) (now (s .args .work)) (s .pre .0 .2)
     (l .d - 1) (l .from) (l .at) (l .k) (l .work) (l .entries) (down i)
     (l .inv .2) in
-    let e = region-end (l .from) (l .inv .1 .region) in
-    let slack : (l .from + regionSize + wordSize ≤ length (l .work)) × ((regionSize - l .from) + regionSize + wordSize ≤ length (l .work)) =
-    omega (sizes, e, l .inv .2, s .pre .0 .2) in
-    (omega (sizes, s .pre .0 .0), (t .0, (t .1 .0, (t .1 .1, slack))))
+    (omega (sizes, s .pre .0 .0), t)
 
 mul-at : tie.Need-mul-at Inv-loop μ-loop
 mul-at c = omega (sizes, links-fit (c .before .before .before .before))

@@ -4,8 +4,8 @@ use mathlib.Core.Path.{ap, _∙_}
 use mathlib.Core.List.{List}
 use Prim.Native.Nat.{ℕ}
 use lib.ListN.{replicate}
-use Rattle.fill.specs.Work.{regionSize}
-use Rattle.fill.specs.inner.Splice.{splice}
+use Rattle.matching.specs.Links.{regionSize}
+use Rattle.matching.specs.Splice.{splice}
 use Rattle.fill.proofs.descent.level_below.Statement.{statement}
 use Rattle.fill.proofs.descent.level_below.Tie as tie
 

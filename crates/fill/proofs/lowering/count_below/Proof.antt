@@ -6,7 +6,7 @@ use mathlib.Core.Path.{_≡_, refl, subst}
 use mathlib.Core.List.{List}
 use Prim.Native.Nat.{ℕ, suc, _+_, _*_, _-_, _≤_}
 use lib.ListN.{length, set}
-use Rattle.fill.specs.inner.Level.{partsAt}
+use Rattle.matching.specs.Level.{partsAt}
 use Rattle.fill.specs.inner.Lowering.{levelLinksAt}
 use Rattle.fill.proofs.Lowered.TrialSizes.{trialSizes}
 use Rattle.fill.proofs.Lowered.LevelsCounted.{Counted, down-place, counted-first, counted-last, counted-asks, counted-on}

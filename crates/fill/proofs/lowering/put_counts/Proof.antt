@@ -6,8 +6,8 @@ use native.Mathlib.Nat.{le-antisymm}
 use lib.ListN.{length, take}
 use lib.Seq.{take-all}
 use Rattle.diagram.specs.Bound.{mostVariables}
-use Rattle.fill.specs.inner.Splice.{splice}
-use Rattle.fill.proofs.Buffers.Splice.{splice-none, splice-more, length-splice-take}
+use Rattle.matching.specs.Splice.{splice}
+use Rattle.matching.proofs.Buffers.Splice.{splice-none, splice-more, length-splice-take}
 use Rattle.fill.proofs.Lowered.TrialSizes.{trialSizes}
 use Rattle.fill.proofs.lowering.put_counts.Statement.{statement}
 use Rattle.fill.proofs.lowering.put_counts.Tie as tie

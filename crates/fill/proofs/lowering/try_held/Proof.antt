@@ -8,9 +8,10 @@ use Prim.Native.Nat.{ℕ, suc, _+_, _-_, _≤_, _<_}
 use lib.Dec.{T}
 use lib.ListN.{length, take}
 use Rattle.diagram.specs.Bound.{mostVariables}
-use Rattle.fill.specs.Work.{workSize, regionSize, linksAt}
+use Rattle.matching.specs.Links.{regionSize}
+use Rattle.fill.specs.Work.{workSize, linksAt}
 use Rattle.fill.specs.Calls.{perLevel, countsSize, triedCounts}
-use Rattle.fill.specs.inner.Level.{partsAt}
+use Rattle.matching.specs.Level.{partsAt}
 use Rattle.fill.specs.inner.Descent.{roomy}
 use Rattle.fill.proofs.Lowered.TrialSizes.{trialSizes}
 use Rattle.fill.proofs.Lowered.Trials.{Trial, trial-first, trial-asks, trial-counted, lower-asks, trial-next}

@@ -5,7 +5,7 @@ use mathlib.Core.Path.{refl, ap, _∙_}
 use Prim.Native.Nat.{_*_}
 use borrow.Author.Tests.{eq-eqb, ne-eqb}
 use Rattle.diagram.specs.Bound.{mostVariables}
-use Rattle.fill.specs.inner.Splice.{splice}
+use Rattle.matching.specs.Splice.{splice}
 use Rattle.fill.proofs.lowering.try_level.Statement.{statement}
 use Rattle.fill.proofs.lowering.try_level.Tie as tie
 

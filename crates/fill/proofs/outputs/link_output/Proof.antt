@@ -10,8 +10,8 @@ use Rattle.reorder.specs.Gather.{gatheredPart}
 use Rattle.reorder.proofs.Shifts.{part-size, width-room, width-met}
 use Rattle.reorder.proofs.Gathered.{length-gathered, part-front}
 use Rattle.fill.specs.Work.{linksAt}
-use Rattle.fill.specs.inner.Parts.{levelParts}
-use Rattle.fill.specs.inner.Level.{partsAt, written}
+use Rattle.matching.specs.Parts.{levelParts}
+use Rattle.matching.specs.Level.{partsAt, written}
 use Rattle.fill.proofs.Buffers.Sizes.{sizes}
 use Rattle.fill.proofs.outputs.link_output.Statement.{statement}
 use Rattle.fill.proofs.outputs.link_output.Tie as tie

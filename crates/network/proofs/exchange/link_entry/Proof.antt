@@ -8,7 +8,7 @@ use native.Mathlib.Omega.{arith}
 use denote.Ref.{now}
 use lib.ListN.{length}
 use Rattle.diagram.specs.inner.Exchange.{Pair, entriesAfter, linkInto, halfPair}
-use Rattle.fill.specs.Work.{linkNumber}
+use Rattle.matching.specs.Links.{linkNumber}
 use Rattle.network.specs.inner.Levels.{putStored}
 use Rattle.network.specs.inner.Exchange.{pairOf, pairsIn, lentAt}
 use Rattle.network.proofs.Swapping.LevelLinks.{shows-as, place-few, halves-put, halves-same, halves-differ}

@@ -3,7 +3,7 @@
 use mathlib.Core.Path.{ap, _∙_}
 use denote.Ref.{now}
 use Rattle.diagram.specs.inner.Exchange.{Pair, entriesAfter, linkInto}
-use Rattle.fill.specs.Work.{linkNumber}
+use Rattle.matching.specs.Links.{linkNumber}
 use Rattle.network.specs.inner.Exchange.{pairsIn}
 use Rattle.network.proofs.Swapping.LevelLinks.{shows-as}
 use borrow.Author.Needs.{needs}

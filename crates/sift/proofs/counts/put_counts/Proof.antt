@@ -8,8 +8,8 @@ use denote.Ref.{now}
 use lib.ListN.{length, take}
 use lib.Seq.{take-all}
 use Rattle.diagram.specs.Bound.{mostVariables}
-use Rattle.fill.specs.inner.Splice.{splice}
-use Rattle.fill.proofs.Buffers.Splice.{splice-none, splice-more, length-splice-take}
+use Rattle.matching.specs.Splice.{splice}
+use Rattle.matching.proofs.Buffers.Splice.{splice-none, splice-more, length-splice-take}
 use Rattle.sift.proofs.LentCounts.{level-room}
 use Rattle.sift.proofs.counts.put_counts.Statement.{statement}
 use Rattle.sift.proofs.counts.put_counts.Tie as tie

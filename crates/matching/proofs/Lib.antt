@@ -1,0 +1,4 @@
+pub mod Buffers
+pub mod Linking
+pub mod Parts
+pub mod Wordwise

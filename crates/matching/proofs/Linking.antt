@@ -1,0 +1,9 @@
+pub mod Along
+pub mod First
+pub mod LinkedHalf
+pub mod LinkedHalves
+pub mod LinkedPair
+pub mod NarrowEntry
+pub mod NarrowHalves
+pub mod TreeLevel
+pub mod Twice

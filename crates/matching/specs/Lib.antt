@@ -1,0 +1,8 @@
+pub mod Links
+pub mod Splice
+pub mod Bytes
+pub mod Parts
+pub mod Level
+pub mod Exchange
+pub mod Fits
+pub mod inner
