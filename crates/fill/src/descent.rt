@@ -3,6 +3,7 @@ use crate::fitting::level;
 use crate::outputs::zero;
 use diagram::VARIABLES;
 use matching::REGION;
+use reorder::width::width_of;
 ghost use mathlib.Core.Path.{_≡_};
 ghost use mathlib.Core.Logic.{_⊎_};
 ghost use mathlib.Core.List.{[], _++_};
@@ -18,7 +19,7 @@ ghost use Rattle.matching.specs.Level.{partsAt, written};
 ghost use Rattle.fill.specs.Calls.{perLevel};
 ghost use Rattle.fill.specs.inner.Descent.{levelBelow, linksBelow, countsBelow, roomy, holding, linksUpTo};
 
-// One level: links the halves of the count parts at from among the entries at to, and makes the region at from zero again.
+// One level: links the halves of the count parts at from among the entries at to, and makes the bytes of those parts zero again.
 // Returns the number of entries.
 pub(crate) fn level_below(
     d: usize,
@@ -36,10 +37,11 @@ pub(crate) fn level_below(
     ensures entries { λ r. ⌜ r ≡ length (levelBelow d (partsAt (suc d) count from (now (work .entry))) .parts) ⌝ }
     ensures work { λ _. ⌜ now (work .exit)
         ≡ splice (written (levelBelow d (partsAt (suc d) count from (now (work .entry)))) to links (now (work .entry)))
-        from (replicate regionSize 0) ⌝ }
+        from (replicate (count * (width (suc d) + width (suc d))) 0) ⌝ }
 {
     let entries = level(d, from, count, to, links, work);
-    zero(from, REGION, work);
+    let v = width_of(d + 1);
+    zero(from, count * (v + v), work);
     entries
 }
 

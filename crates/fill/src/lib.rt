@@ -27,6 +27,9 @@ pub const LINKS: usize = 2 * REGION;
 
 pub const WORK: usize = 32768;
 
+// The most bytes that the links of a filling take (law `links-room`).
+const LINK_BYTES: usize = 8700;
+
 // The bytes of the work buffer that trials use, and how many counts they give: one for each level, with a variable at each level;
 // specs/Work.antt and specs/Calls.antt have the definitions, `trialsSize` and `countsSize`.
 const TRIALS: usize = 5 * REGION;
@@ -89,7 +92,7 @@ pub fn counts(state: State, values: &[u8], care: &[u8], work: &mut [u8]) -> Leve
     let levels = links(state, values, care, work);
     let answer = levels.answer;
     match answer {
-        Answer::Done(_) => clear(work),
+        Answer::Done(_) => zero(LINKS, LINK_BYTES, work),
         _ => {}
     }
     levels

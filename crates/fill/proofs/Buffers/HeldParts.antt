@@ -125,18 +125,15 @@ module _ (work : List ℕ) (big : workSize ≤ length work) where
         past-same (splice a linksAt bytes) work e
 
     -- A level of entries' parts of s′ bytes and their links is written: the parts to the other region, the links behind the bytes. And the
-    -- region of the first parts is zero again.
+    -- first parts are zero again.
     module _ (s′ to n links : ℕ) (l : LevelParts) (fit′ : Fit s′ (l .parts)) (other : Region to)
         (apart : (from + regionSize ≤ to) ⊎ (to + regionSize ≤ from))
-        (size : n ≡ regionSize) (ends : links ≡ linksAt + length bytes) where
-      few : length (flat parts) ≤ regionSize
-      few = fit-end s from linksAt (zeroWork work) (region-end from region) (omega (sizes, length-zero)) parts fit
-
+        (most : n ≤ regionSize) (all : length (flat parts) ≤ n) (ends : links ≡ linksAt + length bytes) where
       few′ : length (flat (l .parts)) ≤ regionSize
       few′ = fit-end s′ to linksAt (zeroWork work) (region-end to other) (omega (sizes, length-zero)) (l .parts) fit′
 
-      size′ : length {A = ℕ} (replicate n 0) ≡ regionSize
-      size′ = length-replicate n 0 ∙ size
+      size′ : length {A = ℕ} (replicate n 0) ≡ n
+      size′ = length-replicate n 0
 
       -- the first parts are gone, whichever of the regions comes first
       gone : splice (splice (splice (zeroWork work) from (flat parts)) to (flat (l .parts))) from (replicate n 0)
@@ -148,17 +145,17 @@ module _ (work : List ℕ) (big : workSize ≤ length work) where
           let o : List ℕ = replicate n 0 in
           ⊎-elim
           (λ (h : from + regionSize ≤ to).
-          splice-swap (splice z from x) from to o y (omega (sizes, size′)) (omega (sizes, length-parts, region-end to other))
+          splice-swap (splice z from x) from to o y (omega (sizes, size′, most)) (omega (sizes, length-parts, region-end to other))
           ∙ ap (λ (m : List ℕ). splice m to y)
-          (splice-over z from x (omega (sizes, in-zero)) o (omega (sizes, size′, few)) ∙ zero-again from n
-          (omega (sizes, region-end from region))))
+          (splice-over z from x (omega (sizes, in-zero)) o (omega (sizes, size′, all)) ∙ zero-again from n
+          (omega (sizes, most, region-end from region))))
           (λ (h : to + regionSize ≤ from).
           let b : from ≤ length (splice z to y) =
           omega (sizes, length-splice z to y (omega (sizes, few′, length-zero, region-end to other)), in-zero) in
           ap (λ (m : List ℕ). splice m from o) (splice-swap z to from y x (omega (sizes, few′)) (omega (sizes, in-zero)))
-          ∙ splice-over (splice z to y) from x b o (omega (sizes, size′, few))
+          ∙ splice-over (splice z to y) from x b o (omega (sizes, size′, all))
           ∙ sym (splice-swap z to from y o (omega (sizes, few′)) (omega (sizes, in-zero)))
-          ∙ ap (λ (m : List ℕ). splice m to y) (zero-again from n (omega (sizes, region-end from region))))
+          ∙ ap (λ (m : List ℕ). splice m to y) (zero-again from n (omega (sizes, most, region-end from region))))
           apart
 
       pub held-next : (m : List ℕ) → m ≡ splice (written l to links (holding from parts bytes work)) from (replicate n 0)
@@ -177,7 +174,7 @@ module _ (work : List ℕ) (big : workSize ≤ length work) where
           ∙ ap (λ (m : List ℕ). splice (splice m (linksAt + length bytes) c) from o)
           (splice-swap a to linksAt y bytes (omega (sizes, few′, region-end to other)) (omega (sizes, length-parts)))
           ∙ ap (λ (m : List ℕ). splice m from o) (splice-append b linksAt bytes in-b c)
-          ∙ splice-swap b from linksAt o (bytes ++ c) (omega (sizes, size′, region-end from region)) in-b
+          ∙ splice-swap b from linksAt o (bytes ++ c) (omega (sizes, size′, most, region-end from region)) in-b
           ∙ ap (λ (m : List ℕ). splice m linksAt (bytes ++ c)) gone
 
   -- no parts are left
@@ -185,6 +182,16 @@ module _ (work : List ℕ) (big : workSize ≤ length work) where
   unfolding holding
   held-none from bytes =
       ap (λ (m : List ℕ). splice m linksAt bytes) (splice-none (zeroWork work) from ∙ sym (splice-none (zeroWork work) 0))
+
+  -- the links are zero again
+  pub held-cleared : (bytes : List ℕ) (n : ℕ) → length bytes ≤ n → linksAt + n ≤ workSize
+      → splice (holding 0 [] bytes work) linksAt (replicate n 0) ≡ zeroWork work
+  unfolding holding
+  held-cleared bytes n few most =
+      let z = zeroWork work in
+      ap (λ (m : List ℕ). splice (splice m linksAt bytes) linksAt (replicate n 0)) (splice-none z 0)
+      ∙ splice-over z linksAt bytes (omega (sizes, length-zero)) (replicate n 0) (omega (sizes, length-replicate {A = ℕ} n 0, few))
+      ∙ zero-again linksAt n most
 
   pub held-trace : (kss : List (List Link)) → linksAt + length (linkBytes (allLinks kss)) ≤ workSize
       → holding 0 [] (linkBytes (allLinks kss)) work ≡ traceWork kss work

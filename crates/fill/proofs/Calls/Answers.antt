@@ -3,10 +3,10 @@
 use mathlib.Core.Path.{_≡_, refl, sym, ap, _∙_}
 use mathlib.Core.Bool.{Bool, true, false, not, _&&_, false≢true, and-false}
 use mathlib.Core.List.{List}
-use Prim.Native.Nat.{ℕ, _≤_, _<_}
+use Prim.Native.Nat.{ℕ, _*_, _≤_, _<_}
 use borrow.Author.Tests.{le-leb, lt-leb}
 use lib.Dec.{T, leb, leb→le}
-use lib.ListN.{length}
+use lib.ListN.{length, replicate}
 use Rattle.diagram.specs.Table.{cost}
 use Rattle.diagram.proofs.Bools.{split, to-T, and-r}
 use Rattle.table.specs.declared.Answer.{Answer}
@@ -15,11 +15,13 @@ use Rattle.table.specs.declared.State.{State}
 use Rattle.table.specs.Answer.{done}
 use Rattle.table.specs.State.{orderOf, stageOf, isNothing}
 use Rattle.table.specs.Calls.{planeSize}
-use Rattle.fill.specs.Work.{workSize, zeroWork, clearedWork}
+use Rattle.fill.specs.Work.{workSize, linksAt, zeroWork, clearedWork}
 use Rattle.fill.specs.Calls.{heldTable, enough, countAnswer, countWork, levelsOf, linksWork}
 use Rattle.fill.specs.inner.Filling.{filledWork, filledLevels, refusedLevels}
 use Rattle.fill.proofs.Buffers.Sizes.{sizes}
-use Rattle.fill.proofs.Calls.HeldFilling.{filled-past}
+use Rattle.fill.proofs.Room.LinksRoom.{linksLimit}
+use Rattle.fill.proofs.Calls.HeldFilling.{links-gone}
+use Rattle.matching.specs.Splice.{splice}
 
 -- whether the buffers have their sizes
 module _ (values care work : List ℕ) where
@@ -98,7 +100,7 @@ unfolding linksWork countWork
 count-refused s values care work m d e = e ∙ (rw d)
 
 -- a success: the table was held, and the work buffer had its size
-done-held : (s : State) (values care work : List ℕ) → done (countAnswer s values care work) ≡ true
+pub done-held : (s : State) (values care work : List ℕ) → done (countAnswer s values care work) ≡ true
     → (workSize ≤ length work) × T (not (isNothing (stageOf s)))
 unfolding countAnswer workSize
 done-held s values care work d =
@@ -112,14 +114,12 @@ done-held s values care work d =
     (λ e. absurd (false≢true (rw e at d)))
 
 pub count-cleared : (s : State) (values care work m m′ : List ℕ) → done (countAnswer s values care work) ≡ true
-    → m ≡ linksWork s values care work
-    → m′ ≡ clearedWork m → length m ≡ length work → m′ ≡ countWork s values care work
+    → m ≡ linksWork s values care work → m′ ≡ splice m linksAt (replicate (2 * linksLimit) 0) → m′ ≡ countWork s values care work
 unfolding linksWork countWork filledWork
-count-cleared s values care work m m′ d e q l =
+count-cleared s values care work m m′ d e q =
     let (big, held) = done-held s values care work d in
     let f : m ≡ filledWork s values care work = rw d at e in
     q
-    ∙ sym (cleared-zero m (zeroWork m) (omega sizes) refl)
-    ∙ ap zeroWork f
-    ∙ filled-past s values care held work big
+    ∙ ap (λ (y : List ℕ). splice y linksAt (replicate (2 * linksLimit) 0)) f
+    ∙ links-gone s values care held work big
     ∙ (rw d)

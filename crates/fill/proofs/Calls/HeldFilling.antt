@@ -6,7 +6,7 @@ use mathlib.Core.List.{List, [], _++_, sum}
 use mathlib.Core.Logic.{inl}
 use Prim.Native.Nat.{ℕ, _+_, _*_, _≤_}
 use lib.Dec.{T}
-use lib.ListN.{length, take}
+use lib.ListN.{length, take, replicate}
 use Rattle.diagram.specs.Bound.{mostOutputs, mostNodes}
 use Rattle.diagram.specs.Fill.{level, trace}
 use Rattle.diagram.specs.Network.{counts}
@@ -24,7 +24,10 @@ use Rattle.fill.specs.inner.Descent.{linksBelow, countsBelow, roomy, hol
 use Rattle.fill.specs.inner.Counts.{countsAt, linksEnd}
 use Rattle.fill.specs.inner.Filling.{firstWork, filledWork, filledLevels}
 use Rattle.fill.proofs.Buffers.Sizes.{sizes}
-use Rattle.fill.proofs.Buffers.HeldParts.{held-past, held-trace}
+use Rattle.fill.proofs.Buffers.HeldParts.{held-cleared, held-trace}
+use Rattle.matching.specs.Splice.{splice}
+use Rattle.matching.proofs.Buffers.PartLengths.{length-links}
+use Rattle.fill.proofs.Room.LinksRoom.{linksLimit, links-room}
 use Rattle.fill.proofs.Calls.Filling.{trace-size, descend-asks, entries-filled, left-filled, counts-ask, counts-filled, cells-filled}
 
 module _ (s : State) (values care : List ℕ) (held : T (not (isNothing (stageOf s)))) where
@@ -34,14 +37,17 @@ module _ (s : State) (values care : List ℕ) (held : T (not (isNothing (stageOf
   pub few : length (drawnOutputs s values care) ≤ mostOutputs
   few = omega (sizes, outputs, few-outputs s held)
 
-  -- what lies past the work buffer's size is as it was
-  pub filled-past : (work : List ℕ) → workSize ≤ length work → zeroWork (filledWork s values care work) ≡ zeroWork work
+  -- the links are all that is left in it
+  pub links-gone : (work : List ℕ) → workSize ≤ length work
+      → splice (filledWork s values care work) linksAt (replicate (2 * linksLimit) 0) ≡ zeroWork work
   unfolding filledWork
-  filled-past work big =
-      let kss = trace true (s .n) (drawnOutputs s values care) in
-      let size = trace-size (drawnOutputs s values care) (few-inputs s held) few in
-      ap zeroWork (sym (held-trace work big kss size))
-      ∙ held-past work big 2 0 [] (linkBytes (allLinks kss)) (tt, omega sizes) (inl refl) size
+  links-gone work big =
+      let fs = drawnOutputs s values care in
+      let kss = trace true (s .n) fs in
+      let size = trace-size fs (few-inputs s held) few in
+      ap (λ (y : List ℕ). splice y linksAt (replicate (2 * linksLimit) 0)) (sym (held-trace work big kss size))
+      ∙ held-cleared work big (linkBytes (allLinks kss)) (2 * linksLimit)
+      (omega (sizes, length-links (allLinks kss), links-room (s .n) fs (few-inputs s held) few)) (omega sizes)
 
   module _ (work : List ℕ) (big : workSize ≤ length work) (k : ℕ) (m : List ℕ)
       (many : k ≡ length (level true [] (drawnOutputs s values care) .entries)) (is : m ≡ firstWork s values care work) where

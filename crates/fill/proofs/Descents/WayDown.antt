@@ -18,7 +18,8 @@ use Rattle.fill.specs.Calls.{perLevel}
 use Rattle.fill.specs.inner.Descent.{levelBelow, linksBelow, countsBelow, roomy, holding, linksUpTo}
 use Rattle.fill.proofs.Buffers.Sizes.{sizes}
 use Rattle.matching.proofs.Buffers.Chunks.{length-chunks}
-use Rattle.matching.proofs.Buffers.PartLengths.{Long, long-chunks, length-links}
+use Rattle.matching.specs.Parts.{flat}
+use Rattle.matching.proofs.Buffers.PartLengths.{Long, long-chunks, length-links, length-flat}
 use Rattle.matching.proofs.Buffers.WrittenLevel.{Fit}
 use Rattle.fill.proofs.Descents.LevelsBelow.{counts-suc, bytes-suc, links-two, links-length, Room, room-suc, none-left, room-first}
 use Rattle.fill.proofs.Descents.LevelsBelow.{level-fits}
@@ -117,7 +118,8 @@ module _ (n : ℕ) (all : List (List ℕ)) (before work : List ℕ) (big : workS
 
     pub going-on : (r : ℕ) (m′ entries′ : List ℕ) → n ≤ mostVariables
         → r ≡ length (levelBelow d (partsAt (suc d) k from m) .parts)
-        → m′ ≡ splice (written (levelBelow d (partsAt (suc d) k from m)) (regionSize - from) links m) from (replicate regionSize 0)
+        → m′ ≡ splice (written (levelBelow d (partsAt (suc d) k from m)) (regionSize - from) links m) from
+        (replicate (k * (width (suc d) + width (suc d))) 0)
         → entries′ ≡ set entries (n - suc d) k
         → Going n all before work d (regionSize - from) (links + 4 * k) r m′ entries′
     going-on r m′ entries′ small p q o =
@@ -130,6 +132,8 @@ module _ (n : ℕ) (all : List (List ℕ)) (before work : List ℕ) (big : workS
         let b : length (g .bytes ++ linkBytes (l .links)) ≡ length (g .bytes) + length (linkBytes (l .links)) =
         length-append (g .bytes) (linkBytes (l .links)) in
         let e : n - suc d ≡ length (g .passed) = omega (sizes, g .levels) in
+        let s = width (suc d) + width (suc d) in
+        let all-gone : length (flat ps) ≤ k * s = omega (sizes, length-flat s ps (g .long), ap (λ (j : ℕ). j * s) c) in
         record {
           parts = l .parts;
           bytes = g .bytes ++ linkBytes (l .links);
@@ -139,11 +143,11 @@ module _ (n : ℕ) (all : List (List ℕ)) (before work : List ℕ) (big : workS
           count = p ∙ ap (λ (y : List (List ℕ)). length (levelBelow d y .parts)) going-parts;
           buffer =
               held-next work big (width (suc d) + width (suc d)) from ps (g .bytes) fit-here (g .region)
-              (width d + width d) (regionSize - from) regionSize links l
-              fits (region-other from (g .region)) (regions-apart from (g .region)) refl (g .ends) m′
+              (width d + width d) (regionSize - from) (k * s) links l
+              fits (region-other from (g .region)) (regions-apart from (g .region)) (rw c (going-room .here)) all-gone (g .ends) m′
               (q
               ∙ ap₂ (λ (y : List (List ℕ)) (z : List ℕ). splice (written (levelBelow d y) (regionSize - from) links z) from
-              (replicate regionSize 0))
+              (replicate (k * s) 0))
               going-parts (g .buffer));
           ends = omega (sizes, g .ends);
           room = going-room .below;

@@ -2,11 +2,14 @@
 use borrow.Author.Needs.{needs}
 use denote.Ref.{now}
 use mathlib.Core.Path.{_≡_, sym, ap, _∙_}
+use mathlib.Core.Bool.{true}
 use Rattle.table.specs.Answer.{done}
 use Rattle.table.proofs.Variants.{is-first, is-other}
 use Rattle.fill.specs.declared.Levels.{Levels}
+use Rattle.fill.specs.Work.{linksAt}
 use Rattle.fill.specs.Calls.{countAnswer}
-use Rattle.fill.proofs.Calls.Answers.{levels-answer, count-refused, count-cleared}
+use Rattle.fill.proofs.Buffers.Sizes.{sizes}
+use Rattle.fill.proofs.Calls.Answers.{levels-answer, done-held, count-refused, count-cleared}
 use Rattle.fill.proofs.counts.Statement.{statement}
 use Rattle.fill.proofs.counts.Tie as tie
 
@@ -16,12 +19,6 @@ links-requires c κs = search needs
 enum-told : tie.Need-enum-told
 enum-told c = search needs
 
-clear-requires : tie.Need-clear-requires
-clear-requires c κs = search needs
-
-same-length : tie.Need-same-length
-same-length c = search needs
-
 answer : (l : tie.After-links)
     → let a = l .before .before .before .before .before .args in
     l .links .result .answer ≡ countAnswer (a .state) (now (a .values)) (now (a .care)) (now (a .work))
@@ -29,17 +26,36 @@ answer l =
     let a = l .before .before .before .before .before .args in
     ap (λ (y : Levels). y .answer) (l .links .ensures .0) ∙ levels-answer (a .state) (now (a .values)) (now (a .care)) (now (a .work))
 
+-- a success: the work buffer has its size
+success : (k : tie.At-match-keys1)
+    → let l = k .before .before .before in
+    let a = l .before .before .before .before .before .args in
+    done (countAnswer (a .state) (now (a .values)) (now (a .care)) (now (a .work))) ≡ true
+success k =
+    let l = k .before .before .before in
+    sym (ap done (answer l)) ∙ sym (is-first (l .links .result .answer) (k .match .keys1))
+
+zero-requires : tie.Need-zero-requires
+zero-requires c κs =
+    let k = c .before .before in
+    let l = k .before .before .before in
+    let a = l .before .before .before .before .before .args in
+    omega (sizes, done-held (a .state) (now (a .values)) (now (a .care)) (now (a .work)) (success k) .0, l .links .kept .1 .1 .1 .0)
+
+same-length : tie.Need-same-length
+same-length c = search needs
+
 returns : tie.Need-returns
+unfolding linksAt
 returns c =
     let l = c .before .before .before .before .before .before .before .before in
     let a = l .before .before .before .before .before .args in
     let k = c .before .before .before .before .before in
-    let m = l .links .last .1 .1 .1 .0 in
-    let d = sym (ap done (answer l)) ∙ sym (is-first (l .links .result .answer) (k .match .keys1)) in (
+    let m = l .links .last .1 .1 .1 .0 in (
       l .links .ensures .0,
-      count-cleared (a .state) (now (a .values)) (now (a .care)) (now (a .work)) m (c .before .before .clear .last .0) d
+      count-cleared (a .state) (now (a .values)) (now (a .care)) (now (a .work)) m (c .before .before .zero .last .1 .1 .0) (success k)
           (l .links .ensures .1)
-          (c .before .before .clear .ensures) (l .links .kept .1 .1 .1 .0),
+          (c .before .before .zero .ensures),
     )
 
 same-length-2 : tie.Need-same-length-2
@@ -57,4 +73,4 @@ returns-2 c =
 pub counts-spec : {M : Type 1} → statement M
 counts-spec =
     tie.close
-    (tie.spec links-requires enum-told clear-requires same-length returns same-length-2 returns-2)
+    (tie.spec links-requires enum-told zero-requires same-length returns same-length-2 returns-2)
