@@ -26,13 +26,6 @@ pub fn digit_at(bytes: &[u8], i: usize) -> u8
     byte_at(bytes, i >> 3) >> (i & 7) & 1
 }
 
-// Bit i of a stream.
-pub fn bit_at(bytes: &[u8], i: usize) -> bool
-    ensures { λ r. ⌜ r ≡ streamBit (now (bytes .entry)) i ⌝ }
-{
-    digit_at(bytes, i) == 1
-}
-
 // The first eight bytes as a word, the lowest first.
 fn first_word(bytes: &[u8]) -> u64
     ensures { λ r. ⌜ r ≡ wordOf (now (bytes .entry)) 0 8 ⌝ }

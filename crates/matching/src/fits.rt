@@ -1,5 +1,6 @@
 // Whether the calls have all that they need, from numbers alone, whatever they are: no sum and no product here is too large for its type.
 use crate::REGION;
+use crate::words::WORD;
 use diagram::VARIABLES;
 use reorder::width::width_of;
 ghost use mathlib.Core.Path.{_≡_};
@@ -7,9 +8,6 @@ ghost use Prim.Native.Nat.{_+_, _*_, _<_};
 ghost use lib.Dec.{leb};
 ghost use Rattle.diagram.specs.Bound.{mostVariables};
 ghost use Rattle.matching.specs.Fits.{regionsApart, regionFits, regionsFit, countFits, levelFits, candidateFits, partsFit};
-
-// The bytes of a word; specs/Links.antt has the definition, `wordSize`.
-const WORD: usize = 8;
 
 // Whether count blocks of size bytes each, the first of them at byte at, end at byte end or before it.
 fn blocks_fit(at: usize, count: usize, size: usize, end: usize) -> bool

@@ -6,7 +6,7 @@ ghost use Rattle.matching.specs.Bytes.{mergeByte};
 ghost use Rattle.matching.specs.Splice.{splice};
 ghost use Rattle.matching.specs.inner.Words.{wordSize, wordOf, bytesOf};
 
-// The bytes of a word; specs/inner/Words.antt has the definition, `wordSize`.
+// The bytes of a word; specs/Links.antt has the definition, `wordSize`.
 pub(crate) const WORD: usize = 8;
 
 // The word at a.

@@ -1,5 +1,5 @@
--- `matching::narrow_level::narrow_level` meets its contract. The loop's invariant: what the halves of the first e parts come to is linked. The measure is how
--- many parts are left. Assumes nothing.
+-- `matching::narrow_level::narrow_level` meets its contract. The loop's invariant: what the halves of the first e parts come to is linked.
+-- The measure is how many parts are left. Assumes nothing.
 use borrow.Author.Needs.{needs}
 use mathlib.Core.Path.{_≡_, refl, ap, _∙_, subst}
 use Prim.Native.Nat.{ℕ, suc, _+_, _*_, _-_, _≤_, zero-le}
