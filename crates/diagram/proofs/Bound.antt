@@ -1,6 +1,6 @@
 -- The general bound on the nodes holds of every network, and so does its largest value.
 -- Assumes nothing.
-use mathlib.Core.Path.{subst}
+use mathlib.Core.Path.{sym, subst}
 use mathlib.Core.Bool.{Bool, true}
 use mathlib.Core.List.{List}
 use Prim.Native.Nat.{ℕ, zero, suc, _-_, _≤_, zero-le, suc-le-suc}
@@ -10,11 +10,13 @@ use lib.ListN.{length}
 use Rattle.diagram.specs.Lists.{all, upTo}
 use Rattle.diagram.specs.Tree.{Tree, halves}
 use Rattle.diagram.specs.Network.{count}
+use Rattle.diagram.specs.Table.{Table, filled, cost}
 use Rattle.diagram.specs.Bound.{classesOver, bound, mostVariables, mostOutputs, mostNodes}
 use Rattle.diagram.proofs.Lists.{eqb-equality, all-has}
 use Rattle.diagram.proofs.Tree.{length-halves}
 use Rattle.diagram.proofs.Classes.{classes-length}
 use Rattle.diagram.proofs.Count.{total, count-total}
+use Rattle.diagram.proofs.Demands.{filled-length}
 use Rattle.diagram.proofs.Enumerate.{classes-most}
 use Rattle.diagram.proofs.Numbers.{has-upTo}
 
@@ -48,3 +50,9 @@ most n ts h k =
     (leb→le (bound true n mostOutputs) mostNodes
     (all-has eqb eqb-equality (λ i. leb (bound true i mostOutputs) mostNodes) (upTo (suc mostVariables)) bounds-hold n
     (has-upTo n (suc mostVariables) (suc-le-suc h))))
+
+-- no order costs more than the most nodes there can be
+pub few-cost : (t : Table) (order : List ℕ) → t .n ≤ mostVariables → t .m ≤ mostOutputs → cost t order ≤ mostNodes
+unfolding cost
+few-cost t order few few′ =
+    most (t .n) (filled true t order) few (subst (λ k. k ≤ mostOutputs) (sym (filled-length true t order)) few′)

@@ -13,6 +13,7 @@ use Rattle.diagram.specs.Network.{counts}
 use Rattle.diagram.specs.Table.{filled, cost}
 use Rattle.diagram.specs.Bound.{mostNodes}
 use Rattle.diagram.specs.inner.Trace.{differing}
+use Rattle.diagram.proofs.Bound.{few-cost}
 use Rattle.diagram.proofs.Lists.{getD-map}
 use Rattle.table.specs.declared.State.{State}
 use Rattle.table.specs.State.{orderOf, stageOf, isNothing}
@@ -23,7 +24,7 @@ use Rattle.fill.proofs.Room.LinksRoom.{linksLimit}
 use Rattle.fill.proofs.Counting.PerLevel.{per-level-at}
 use Rattle.network.specs.Build.{heldNetwork, wanted}
 use Rattle.network.proofs.LevelsRead.{Sized}
-use Rattle.network.proofs.TraceRead.{kss, lss, counts-traced, cost-nodes, trace-room, few-cost}
+use Rattle.network.proofs.TraceRead.{kss, lss, counts-traced, cost-nodes, trace-room}
 use Rattle.network.proofs.TraceSized.{lower-length, trace-sized, entries-half}
 
 module _ (s : State) (values care : List ℕ) where

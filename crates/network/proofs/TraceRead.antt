@@ -17,15 +17,13 @@ use Rattle.diagram.specs.Fill.{Row, Link, trace}
 use Rattle.diagram.specs.Diagram.{Node, Diagram}
 use Rattle.diagram.specs.Network.{network, count, counts}
 use Rattle.diagram.specs.Table.{Table, reordered, filled, networkOf, cost}
-use Rattle.diagram.specs.Bound.{mostVariables, mostOutputs, mostNodes}
+use Rattle.diagram.specs.Bound.{mostVariables, mostOutputs}
 use Rattle.diagram.specs.inner.Trace.{differing, linkRef, tracedRefs, tracedNodes, tracedNetwork, tracedCounts}
 use Rattle.diagram.proofs.Bools.{split}
 use Rattle.diagram.proofs.Fill.{links-length}
 use Rattle.diagram.proofs.Levels.{linksOf, lower, trace-lower}
 use Rattle.diagram.proofs.Rising.{AllValid}
 use Rattle.diagram.proofs.Traced.{traced, traced-counts}
-use Rattle.diagram.proofs.Bound.{most}
-use Rattle.diagram.proofs.Demands.{filled-length}
 use Rattle.diagram.proofs.UpTo.{length-map-upTo, map-upTo-cong}
 use Rattle.block.specs.Bits.{sumBelow}
 use Rattle.table.specs.Calls.{over}
@@ -87,11 +85,6 @@ module _ (t : Table) (order : List ℕ) where
     -- the links have room in the work buffer
     pub trace-room : length (allLinks kss) ≤ linksLimit
     trace-room = links-room (t .n) drawn few (subst (λ k. k ≤ mostOutputs) (sym drawn-length) few′)
-
-    -- no order costs more than the most nodes there can be
-    pub few-cost : cost t order ≤ mostNodes
-    unfolding cost
-    few-cost = most (t .n) (filled true t order) few (subst (λ k. k ≤ mostOutputs) (sym (filled-length true t order)) few′)
 
     -- entries and counts are those of the levels
     module _ (entries counts : List ℕ) (sized : Sized (t .m) entries counts 0 lss) where

@@ -55,6 +55,9 @@ module _ (n m : ℕ) (order : List ℕ) (g : T (goodHeading n m order)) where
   unfolding goodHeading
   heading-outputs = and-l (leb 1 m && leb m mostOutputs) (isOrder n order) (and-r (leb n mostVariables) _ g)
 
+  pub heading-few : m ≤ mostOutputs
+  heading-few = leb→le m mostOutputs (and-r (leb 1 m) (leb m mostOutputs) heading-outputs)
+
   pub heading-order : T (isOrder n order)
   unfolding goodHeading
   heading-order = and-r (leb 1 m && leb m mostOutputs) (isOrder n order) (and-r (leb n mostVariables) _ g)
@@ -69,14 +72,12 @@ module _ (s : State) (held : T (not (isNothing (stageOf s)))) where
   pub few-inputs : s .n ≤ mostVariables
   few-inputs = heading-inputs (s .n) (s .m) (orderOf s) held-heading
 
-  in-range : T (leb 1 (s .m) && leb (s .m) mostOutputs)
-  in-range = heading-outputs (s .n) (s .m) (orderOf s) held-heading
-
   pub some-outputs : 1 ≤ s .m
-  some-outputs = leb→le 1 (s .m) (and-l (leb 1 (s .m)) (leb (s .m) mostOutputs) in-range)
+  some-outputs =
+      leb→le 1 (s .m) (and-l (leb 1 (s .m)) (leb (s .m) mostOutputs) (heading-outputs (s .n) (s .m) (orderOf s) held-heading))
 
   pub few-outputs : s .m ≤ mostOutputs
-  few-outputs = leb→le (s .m) mostOutputs (and-r (leb 1 (s .m)) (leb (s .m) mostOutputs) in-range)
+  few-outputs = heading-few (s .n) (s .m) (orderOf s) held-heading
 
   pub ordered : T (isOrder (s .n) (orderOf s))
   ordered = heading-order (s .n) (s .m) (orderOf s) held-heading

@@ -15,6 +15,7 @@ use Rattle.diagram.specs.Diagram.{wellFormed}
 use Rattle.diagram.specs.Order.{isOrder}
 use Rattle.diagram.specs.Table.{cost}
 use Rattle.diagram.proofs.Bools.{split, to-T}
+use Rattle.diagram.proofs.Bound.{few-cost}
 use Rattle.diagram.proofs.Pass.{pass-within}
 use Rattle.block.specs.Bits.{packed, streamBit}
 use Rattle.block.proofs.Packed.{packed-lt}
@@ -42,7 +43,6 @@ use Rattle.lent.proofs.Answered.{network-held}
 use Rattle.network.specs.Build.{wanted, capacity, longEnough, buildAnswer, buildOutcome}
 use Rattle.network.specs.Swap.{cellTable, exchangedOrder, swappedCount, swapChecks, swapCellsAnswer, swapCellsOutcome}
 use Rattle.network.proofs.HeldRead.{few-nodes, few-wanted}
-use Rattle.network.proofs.TraceRead.{few-cost}
 use Rattle.canonical.specs.Canonical.{canonicalAnswer}
 use Rattle.cellfile.specs.File.{countAt, rootsAt, fileCount, fileDiagram, cellBlocks, carriedNumbers}
 use Rattle.cellfile.specs.File.{unusedHeading, networkHeading, cellsBlock, cellsAnswer, networkFileAnswer}

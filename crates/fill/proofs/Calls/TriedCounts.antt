@@ -6,19 +6,19 @@ use mathlib.Core.List.{List, _++_, map, sum, append-assoc}
 use Prim.Native.Nat.{ℕ, zero, suc, _+_, _*_, _-_, _≤_, _<_}
 use native.Mathlib.Omega.{arith}
 use borrow.Author.Tests.{le-leb, ltb-true, ltb-false, eqb-true, eqb-false}
-use lib.Dec.{T, eqb, ltb, leb, leb→le}
+use lib.Dec.{T, eqb, ltb}
 use lib.ListN.{length, take, drop, replicate, replicate-append-replicate}
 use lib.Seq.{take-at}
 use Rattle.diagram.specs.Bound.{mostVariables, mostOutputs, mostNodes}
 use Rattle.diagram.specs.Lists.{upTo}
 use Rattle.diagram.specs.Network.{counts}
 use Rattle.diagram.specs.Table.{Table, reordered, filled, cost}
-use Rattle.diagram.proofs.Bools.{split, of-T, and-r}
+use Rattle.diagram.proofs.Bools.{split, of-T}
 use Rattle.diagram.proofs.UpTo.{length-map-upTo}
 use Rattle.table.specs.declared.Answer.the-variants.{Done}
 use Rattle.table.specs.declared.State.{State}
 use Rattle.table.specs.State.{goodHeading, stageOf, isNothing}
-use Rattle.table.proofs.Held.{heading-inputs, heading-outputs}
+use Rattle.table.proofs.Held.{heading-inputs, heading-few}
 use Rattle.fill.specs.Work.{workSize, trialsSize, trialsZero, zeroWork}
 use Rattle.fill.specs.Calls.{enough, perLevel, countsSize, countsOf, trialCounts, triedCounts, trialsAnswer, trialsCounts, trialsWork}
 use Rattle.matching.specs.Splice.{splice}
@@ -130,7 +130,6 @@ pub counts-cost : (t : Table) (order : List ℕ) → T (goodHeading (t .n) (t .m
     × (sum _+_ 0 (perLevel (counts true (t .n) (filled true t order))) ≤ mostNodes)
 unfolding filled cost
 counts-cost t order g =
-    let few : t .m ≤ mostOutputs =
-    leb→le (t .m) mostOutputs (and-r (leb 1 (t .m)) (leb (t .m) mostOutputs) (heading-outputs (t .n) (t .m) order g)) in
+    let few : t .m ≤ mostOutputs = heading-few (t .n) (t .m) order g in
     cells-filled (map (reordered t order) (upTo (t .m))) _ (heading-inputs (t .n) (t .m) order g)
     (omega (arith, length-map-upTo (reordered t order) (t .m))) refl

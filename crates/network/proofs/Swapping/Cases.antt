@@ -27,7 +27,8 @@ use Rattle.network.specs.Swap.{swapCellsOutcome, swapCellsRoots, swapCel
 use Rattle.network.specs.inner.Levels.{storedLimit, Made, made, levelAt, levelsMade, rootAt}
 use Rattle.network.specs.inner.Exchange.{lentAt, putLinks, Counted}
 use Rattle.diagram.specs.inner.Exchange.{exchangedTrace}
-use Rattle.network.proofs.TraceRead.{few-cost, read-end, read-total, read-next, read-cells, read-work, read-roots}
+use Rattle.diagram.proofs.Bound.{few-cost}
+use Rattle.network.proofs.TraceRead.{read-end, read-total, read-next, read-cells, read-work, read-roots}
 use Rattle.network.proofs.WorkLinks.{clear-zero}
 use Rattle.network.proofs.Swapping.Checks.{Passed, refused, checks-clear, checks-long}
 use Rattle.network.proofs.Swapping.HeldLinks.{rootPairs, few, few′, held-sized, held-there, held-long, held-past}
