@@ -30,6 +30,8 @@ pub mod Moved
 pub mod Fewest
 pub mod Most
 pub mod Sift
+pub mod Differences
+pub mod Moves
 pub mod Pass
 pub mod Levels
 pub mod FirstSeen

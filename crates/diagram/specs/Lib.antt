@@ -10,5 +10,6 @@ pub mod Table
 pub mod Canonical
 pub mod Sift
 pub mod Demands
+pub mod Moves
 pub mod Bound
 pub mod Starred
