@@ -10,6 +10,7 @@ use Rattle.diagram.specs.Table.{cost}
 use Rattle.diagram.proofs.Bools.{of-T}
 use Rattle.table.specs.declared.Answer.the-variants.{Done}
 use Rattle.table.specs.declared.State.{State}
+use Rattle.table.specs.Answer.{value}
 use Rattle.table.specs.State.{orderOf, stageOf, isNothing}
 use Rattle.table.specs.Calls.{planeSize}
 use Rattle.fill.specs.Work.{workSize, trialsZero, zeroWork}
@@ -18,7 +19,7 @@ use Rattle.fill.proofs.Calls.TriedCounts.{trials-zeroed}
 use Rattle.sift.specs.inner.Counts.{countsUnder}
 
 module _ (s : State) (values care work : List ℕ) (e : T (enough values care work)) (held : T (not (isNothing (stageOf s)))) where
-  count-done : countAnswer s values care work ≡ Done (cost (heldTable s values care) (orderOf s))
+  pub count-done : countAnswer s values care work ≡ Done (cost (heldTable s values care) (orderOf s))
   unfolding countAnswer
   count-done =
       let b : enough values care work ≡ true = of-T e in
@@ -32,6 +33,10 @@ module _ (s : State) (values care work : List ℕ) (e : T (enough values care wo
   pub counted-levels : levelsOf s values care work .counts ≡ countsUnder (heldTable s values care) (orderOf s)
   unfolding levelsOf countsUnder
   counted-levels = rw count-done
+
+  pub counted-cost : value (levelsOf s values care work .answer) ≡ cost (heldTable s values care) (orderOf s)
+  unfolding levelsOf
+  counted-cost = ap value count-done
 
 -- a work buffer that is as long as before is long enough again
 pub enough-again : (values care work after : List ℕ) → T (enough values care work) → length after ≡ length work

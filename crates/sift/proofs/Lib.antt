@@ -13,3 +13,5 @@ pub mod OneTurn
 pub mod SiftedMarks
 pub mod PassUnderWay
 pub mod PassOutcome
+pub mod Report
+pub mod MovesOutcome

@@ -81,7 +81,7 @@ fn try_level(best: Best, p: usize, nodes: usize, present: bool) -> Best
 }
 
 // Counts the nodes of each level with v at each level in turn, but where v stands: there they are known.
-fn count_levels(
+pub(crate) fn count_levels(
     state: State,
     v: usize,
     known: [usize; VARIABLES],

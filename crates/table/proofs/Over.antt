@@ -1,14 +1,14 @@
 -- A list written over from its front: f 0 to f (k - 1), and what stood from element k on.
 -- Assumes nothing.
 use mathlib.Core.Path.{_≡_, refl, sym, ap, ap₂, _∙_}
-use mathlib.Core.List.{List, [], _∷_, _++_, map, map-append}
+use mathlib.Core.List.{List, [], _∷_, _++_, map, map-append, append-assoc}
 use Prim.Native.Nat.{ℕ, suc, _+_, _-_, _≤_, _<_}
 use native.Mathlib.Numerals.{add-one}
 use native.Mathlib.Omega.{arith}
-use lib.ListN.{length, getD, drop, set, length-append, length-drop, List·getD-append}
-use lib.Seq.{drop-cons, append-snoc, set-at, drop-at, getD-append-add, getD-drop}
+use lib.ListN.{length, getD, take, drop, set, length-append, length-drop, take-append-drop, List·getD-append}
+use lib.Seq.{drop-cons, append-snoc, set-at, take-at, drop-at, drop-drop, drop-append-le, getD-append-add, getD-drop}
 use Rattle.diagram.specs.Lists.{upTo}
-use Rattle.diagram.proofs.UpTo.{length-map-upTo, getD-map-upTo, map-upTo-cong}
+use Rattle.diagram.proofs.UpTo.{length-map-upTo, getD-map-upTo, map-upTo-add, map-upTo-cong}
 use Rattle.table.specs.Calls.{planeSize, over}
 
 module _ {A : Type 0} (f : ℕ → A) where
@@ -46,6 +46,25 @@ module _ {A : Type 0} (f g : ℕ → A) (k : ℕ) (l : List A) where
 
   pub over-cong : ((i : ℕ) → i < k → f i ≡ g i) → over f k l ≡ over g k l
   over-cong e = ap (λ (m : List A). m ++ drop k l) (map-upTo-cong k f g e)
+
+-- a list written over as far as a, and n elements more in the part of k from there on, when that part is back
+pub over-part : {A : Type 0} (f g : ℕ → A) (a k n : ℕ) (l now row : List A) → now ≡ over f a l → ((j : ℕ) → j < n → g j ≡ f (a + j))
+    → n ≤ length (take k (drop a now)) → row ≡ over g n (take k (drop a now)) → take a now ++ (row ++ drop k (drop a now)) ≡ over f (a + n) l
+over-part {A} f g a k n l now row e same room d =
+    let front = map f (upTo a) in
+    let part = map g (upTo n) in
+    let rest = drop a now in
+    let long : length front ≡ a = length-map-upTo f a in
+    let behind : rest ≡ drop a l = ap (drop a) e ∙ drop-at front (drop a l) a long in
+    let back : row ++ drop k rest ≡ part ++ drop n rest =
+    ap (λ (x : List A). x ++ drop k rest) d
+    ∙ append-assoc part (drop n (take k rest)) (drop k rest)
+    ∙ ap (λ (x : List A). part ++ x) (sym (drop-append-le n (take k rest) (drop k rest) room) ∙ ap (drop n) (take-append-drop k rest)) in
+    ap₂ (λ (x y : List A). x ++ y) (ap (take a) e ∙ take-at front (drop a l) a long)
+    (back ∙ ap (λ (x : List A). part ++ drop n x) behind ∙ ap (λ (x : List A). part ++ x) (drop-drop n a l))
+    ∙ sym (append-assoc front part (drop (a + n) l))
+    ∙ ap (λ (x : List A). x ++ drop (a + n) l)
+    (ap (λ (x : List A). front ++ x) (map-upTo-cong n g (λ j. f (a + j)) same) ∙ sym (map-upTo-add f a n))
 
 -- the bytes of a whole plane
 pub plane-size : planeSize ≡ 2048

@@ -13,7 +13,7 @@ use denote.Enum.Declared.{tagOf}
 use Rattle.table.specs.declared.Answer.{Answer}
 use Rattle.table.specs.declared.Answer.the-variants.{Done, BadLength, BadCheck, BadKind, BadInputs, BadOutputs, BadOrder}
 use Rattle.table.specs.declared.Answer.the-variants.{BadContent, NoRow, NoSuch, ShortBuffer, NoTable, NoNetwork, TooSmall}
-use Rattle.table.specs.declared.Answer.the-variants.{BadCells, ShortAnswers, NotCanonical, TooManyRecords}
+use Rattle.table.specs.declared.Answer.the-variants.{BadCells, ShortAnswers, NotCanonical, TooManyRecords, ShortGains}
 use Rattle.table.proofs.Answer.{the-type}
 use Rattle.table.specs.Answer.{number, value, done}
 
@@ -43,14 +43,15 @@ by-variant BadCells = inr record { tagged = λ e. omega arith; numbered = omega 
 by-variant ShortAnswers = inr record { tagged = λ e. omega arith; numbered = omega arith; few = omega arith; plain = λ _. refl }
 by-variant NotCanonical = inr record { tagged = λ e. omega arith; numbered = omega arith; few = omega arith; plain = λ _. refl }
 by-variant TooManyRecords = inr record { tagged = λ e. omega arith; numbered = omega arith; few = omega arith; plain = λ _. refl }
+by-variant ShortGains = inr record { tagged = λ e. omega arith; numbered = omega arith; few = omega arith; plain = λ _. refl }
 
 -- the variants other than a success, by their tags
 abbrev pub refusals : List ℕ
-refusals = 1 ∷ 2 ∷ 3 ∷ 4 ∷ 5 ∷ 6 ∷ 7 ∷ 8 ∷ 9 ∷ 10 ∷ 11 ∷ 12 ∷ 13 ∷ 14 ∷ 15 ∷ 16 ∷ 17 ∷ []
+refusals = 1 ∷ 2 ∷ 3 ∷ 4 ∷ 5 ∷ 6 ∷ 7 ∷ 8 ∷ 9 ∷ 10 ∷ 11 ∷ 12 ∷ 13 ∷ 14 ∷ 15 ∷ 16 ∷ 17 ∷ 18 ∷ []
 
 -- those without a value
 abbrev pub plain-refusals : List ℕ
-plain-refusals = 1 ∷ 2 ∷ 3 ∷ 4 ∷ 5 ∷ 6 ∷ 7 ∷ 8 ∷ 9 ∷ 10 ∷ 11 ∷ 12 ∷ 14 ∷ 15 ∷ 16 ∷ 17 ∷ []
+plain-refusals = 1 ∷ 2 ∷ 3 ∷ 4 ∷ 5 ∷ 6 ∷ 7 ∷ 8 ∷ 9 ∷ 10 ∷ 11 ∷ 12 ∷ 14 ∷ 15 ∷ 16 ∷ 17 ∷ 18 ∷ []
 
 pub number-few : (a : Answer) → number a < 100
 number-few a = ⊎-elim (λ e. omega (arith, sym (ap number e))) (λ r. r .few) (by-variant a)

@@ -6,7 +6,7 @@ use lib.Dec.{eqb}
 use Rattle.table.specs.declared.Answer.{Answer}
 use Rattle.table.specs.declared.Answer.the-variants.{Done, BadLength, BadCheck, BadKind, BadInputs, BadOutputs, BadOrder}
 use Rattle.table.specs.declared.Answer.the-variants.{BadContent, NoRow, NoSuch, ShortBuffer, NoTable, NoNetwork, TooSmall}
-use Rattle.table.specs.declared.Answer.the-variants.{BadCells, ShortAnswers, NotCanonical, TooManyRecords}
+use Rattle.table.specs.declared.Answer.the-variants.{BadCells, ShortAnswers, NotCanonical, TooManyRecords, ShortGains}
 
 abbrev pub number : Answer → ℕ
 number (Done v) = 0
@@ -27,6 +27,7 @@ number BadCells = 24
 number ShortAnswers = 31
 number NotCanonical = 32
 number TooManyRecords = 33
+number ShortGains = 34
 
 -- 'A refusal answers its number and 0, but 23 adds the cells wanted'
 abbrev pub value : Answer → ℕ
@@ -48,6 +49,7 @@ value BadCells = 0
 value ShortAnswers = 0
 value NotCanonical = 0
 value TooManyRecords = 0
+value ShortGains = 0
 
 -- the first answer where the test fails, else what follows
 abbrev pub unless : Bool → Answer → Answer → Answer

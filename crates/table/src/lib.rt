@@ -48,6 +48,7 @@ pub enum Answer {
     ShortAnswers,
     NotCanonical,
     TooManyRecords,
+    ShortGains,
 }
 
 // An answer, and the state after the call.

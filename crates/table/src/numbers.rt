@@ -36,6 +36,7 @@ pub fn number_of(answer: Answer) -> usize
         Answer::ShortAnswers => 31,
         Answer::NotCanonical => 32,
         Answer::TooManyRecords => 33,
+        Answer::ShortGains => 34,
     }
 }
 
