@@ -9,7 +9,7 @@ use Rattle.text.specs.Text.{space, digits, decimal, spaced}
 use Rattle.text.specs.Written.{Written}
 use Rattle.text.proofs.Writing.{written-then, written-as}
 
-digits-small : (f x : ℕ) → x < 10 → digits f x ≡ (48 + x % 10) ∷ []
+pub digits-small : (f x : ℕ) → x < 10 → digits f x ≡ (48 + x % 10) ∷ []
 digits-small zero x h = refl
 digits-small (suc f) x h = rw (lt-ltb x 10 h) refl
 
@@ -19,7 +19,7 @@ written-digit f x h w = written-as (sym (digits-small f x h)) w
 pub written-last : {l m : List ℕ} {i j : ℕ} (f x : ℕ) → f ≡ 0 → Written l m i j ((48 + x % 10) ∷ []) → Written l m i j (digits f x)
 written-last f x e w = written-as (ap (λ (k : ℕ). digits k x) (sym e)) w
 
-digits-more : (f x : ℕ) → 10 ≤ x → 0 < f → digits f x ≡ digits (f - 1) (x / 10) ++ ((48 + x % 10) ∷ [])
+pub digits-more : (f x : ℕ) → 10 ≤ x → 0 < f → digits f x ≡ digits (f - 1) (x / 10) ++ ((48 + x % 10) ∷ [])
 digits-more (suc f) x h k =
     let e : f ≡ suc f - 1 = omega arith in
     rw (le-ltb x 10 h) (ap (λ (q : ℕ). digits q (x / 10) ++ ((48 + x % 10) ∷ [])) e)

@@ -3,3 +3,4 @@ pub mod Digits
 pub mod Lines
 pub mod Words
 pub mod ReadBack
+pub mod Columns

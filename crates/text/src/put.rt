@@ -6,9 +6,12 @@ ghost use Rattle.text.specs.Text.{digits, spaced, line};
 ghost use Rattle.text.specs.Written.{Written};
 
 // The bytes of a space and of a line's end.
-const SPACE: u8 = 32;
+pub(crate) const SPACE: u8 = 32;
 
 pub(crate) const NEWLINE: u8 = 10;
+
+// The most digits before a number's last; specs/Text.antt's `decimal` has the definition.
+pub(crate) const MORE_DIGITS: usize = 19;
 
 // One byte.
 pub(crate) fn put_byte(out: &mut [u8], at: usize, byte: u8) -> usize
@@ -37,7 +40,7 @@ pub(crate) fn put_word(out: &mut [u8], at: usize, word: &[u8]) -> usize
 }
 
 // A number's digits, at most one more than `left`.
-fn put_digits(out: &mut [u8], at: usize, x: usize, left: usize) -> usize
+pub(crate) fn put_digits(out: &mut [u8], at: usize, x: usize, left: usize) -> usize
     requires { ⌜ at ≤ length (now out) ⌝ }
     ensures { λ r. ⌜ Written (now (out .entry)) (now (out .exit)) at r (digits left x) ⌝ }
 {
@@ -58,7 +61,7 @@ pub(crate) fn put_number(out: &mut [u8], at: usize, x: usize) -> usize
     ensures { λ r. ⌜ Written (now (out .entry)) (now (out .exit)) at r (spaced x) ⌝ }
 {
     let next = put_byte(out, at, SPACE);
-    put_digits(out, next, x, 19)
+    put_digits(out, next, x, MORE_DIGITS)
 }
 
 // A word, a number and the line's end.
