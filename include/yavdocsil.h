@@ -53,7 +53,8 @@ enum {
     YAV_BAD_CELLS = 24,
     YAV_SHORT_ANSWERS = 31, /* fewer answers lent than rows */
     YAV_NOT_CANONICAL = 32, /* no build leaves such cells and roots, whatever the table */
-    YAV_TOO_MANY_RECORDS = 33
+    YAV_TOO_MANY_RECORDS = 33,
+    YAV_SHORT_GAINS = 34    /* fewer entries lent than inputs × inputs */
 };
 
 /* An answer is its number × 2³² + its value. */
@@ -122,6 +123,13 @@ uint64_t yav_sift(uint64_t *state, size_t state_words, uint64_t input, const uin
 /* Sifts each input once, as far as a limit of orders allows, and answers the orders tried. Numbers 10, 21. */
 uint64_t yav_pass(uint64_t *state, size_t state_words, uint32_t limit, const uint8_t *values, size_t values_bytes,
                   const uint8_t *care, size_t care_bytes, uint8_t *work, size_t work_bytes);
+
+/* What each move would bring, with nothing moved: entry inputs × input + place has the cells with that input at that place, the others in
+ * sequence, minus the cells now. Below 0 the move saves cells; where the input stands it is 0; the smallest of an input is what a sift of it
+ * would answer, minus the cells now. Entries past inputs × inputs stay, and so does the state. Numbers 10, 21, 34. */
+uint64_t yav_moves(const uint64_t *state, size_t state_words, int32_t *gains, size_t gains_elements,
+                   const uint8_t *values, size_t values_bytes, const uint8_t *care, size_t care_bytes,
+                   uint8_t *work, size_t work_bytes);
 
 #ifdef __cplusplus
 }

@@ -25,7 +25,7 @@ module _ (words : List ℕ) (h : length words < stateWords) where
   unfolding answered
   short-answer call r e = rw (lt-leb stateWords (length words) h) e
 
-  pub short-leaves : (call : State → List ℕ) (buffer : List ℕ) → buffer ≡ leaves words call buffer
+  pub short-leaves : {A : Type 0} (call : State → A) (buffer : A) → buffer ≡ leaves words call buffer
   unfolding leaves
   short-leaves call buffer = rw (lt-leb stateWords (length words) h)
 
@@ -43,7 +43,7 @@ module _ (words : List ℕ) (h : stateWords ≤ length words) (s : State) (e : s
   unfolding answered
   called-answer call r a f g = rw (le-leb stateWords (length words) h) (f ∙ ap answerWord (g ∙ ap call e))
 
-  pub called-leaves : (call : State → List ℕ) (after buffer : List ℕ) → after ≡ call s → after ≡ leaves words call buffer
+  pub called-leaves : {A : Type 0} (call : State → A) (after buffer : A) → after ≡ call s → after ≡ leaves words call buffer
   unfolding leaves
   called-leaves call after buffer g = rw (le-leb stateWords (length words) h) (g ∙ ap call e)
 

@@ -6,6 +6,7 @@ use mathlib.Core.List.{List}
 use Prim.Native.Nat.{ℕ, zero, suc, _+_, _*_, _-_, _≤_, _<_, _^_}
 use native.Mathlib.Omega.{arith}
 use lib.Dec.{eqb, ltb, leb}
+use lib.IntN.{ℤ}
 use lib.ListN.{length, getD}
 use lib.Pow.{pow-mono}
 use Rattle.diagram.specs.Lists.{all}
@@ -25,7 +26,7 @@ use Rattle.block.specs.Block.{unusedBetween, unusedZero, unusedBitsZero}
 use Rattle.table.specs.declared.Answer.{Answer}
 use Rattle.table.specs.declared.Answer.the-variants.{Done, BadLength, BadCheck, BadKind, BadInputs, BadOutputs, BadOrder}
 use Rattle.table.specs.declared.Answer.the-variants.{BadContent, NoRow, NoSuch, ShortBuffer, NoTable, NoNetwork, TooSmall}
-use Rattle.table.specs.declared.Answer.the-variants.{BadCells, ShortAnswers, NotCanonical, TooManyRecords}
+use Rattle.table.specs.declared.Answer.the-variants.{BadCells, ShortAnswers, NotCanonical, TooManyRecords, ShortGains}
 use Rattle.table.specs.declared.State.{State}
 use Rattle.table.specs.Answer.{value, done, unless, unlessRefused, firstRefusal}
 use Rattle.table.specs.State.{orderOf, stageOf, isNothing, isNetwork}
@@ -50,6 +51,7 @@ use Rattle.cellfile.specs.Read.{readAnswer, readOutcome}
 use Rattle.cellfile.specs.Write.{fileSize, writeAnswer}
 use Rattle.rowlog.specs.Log.{mostRecords, recordsOf, logAnswer, logOutcome}
 use Rattle.sift.specs.Calls.{siftedOrder, siftAnswer, siftOutcome, passOf, passAnswer, passOutcome}
+use Rattle.sift.specs.Moves.{movesAnswer}
 use Rattle.yavdocsil.specs.Words.{valueLimit}
 
 abbrev pub Small : Answer → Type 0
@@ -311,6 +313,13 @@ module _ (s : State) where
         let last = Done (cost (heldTable s values care) order) in
         lent-small (unless (ltb v (s .n)) NoSuch last)
         (λ e. checked (ltb v (s .n)) NoSuch last refl (λ _. omega (arith, few-nodes s values care (to-T e) order)))
+
+    -- a report of all moves: the one success is 0
+    pub moves-small : (gains : List ℤ) → Small (movesAnswer s gains values care work)
+    unfolding movesAnswer
+    moves-small gains =
+        let room = leb (s .n * s .n) (length gains) in
+        lent-small (unless room ShortGains (Done 0)) (λ _. checked room ShortGains (Done 0) refl (λ _. none))
 
     -- no more orders are tried than the limit allows
     pub pass-small : (limit : ℕ) → limit < valueLimit → Small (passOutcome s limit values care work .answer)

@@ -20,8 +20,8 @@ isState words = leb stateWords (length words)
 unfoldable pub answered : List ℕ → (State → Answer) → ℕ
 answered words call = answerWord (unless (isState words) ShortBuffer (call (stateFrom words)))
 
--- a lent buffer after a call: as it was where the words are too few
-unfoldable pub leaves : List ℕ → (State → List ℕ) → List ℕ → List ℕ
+-- a lent buffer after a call, of whatever numbers it is: as it was where the words are too few
+unfoldable pub leaves : {A : Type 0} → List ℕ → (State → A) → A → A
 leaves words call buffer = cond (isState words) (call (stateFrom words)) buffer
 
 -- 'A refusal writes no word of the state. A success of a call that changes the state writes all listed words'

@@ -5,6 +5,7 @@ pub mod cells;
 pub mod evaluate;
 pub mod load;
 pub mod log;
+pub mod moves;
 pub mod order;
 mod state;
 pub mod swap;
