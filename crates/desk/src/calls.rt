@@ -6,6 +6,7 @@ use crate::list::Listed;
 use crate::list::ROWS;
 use crate::list::rows_in;
 use crate::log;
+use crate::report;
 use crate::show;
 use diagram::NODES;
 use fill::count;
@@ -200,6 +201,7 @@ fn swapped_cells(
 fn print(
     shown: Shown,
     state: State,
+    values: &[u8],
     care: &[u8],
     counts: &[u32],
     work: &mut [u8],
@@ -214,6 +216,7 @@ fn print(
         Shown::Cared => show::cared(state, care),
         Shown::Write => show::written(state, roots, cells, work),
         Shown::Logged => log::seen_lines(counts),
+        Shown::Moves => report::moves_lines(state, values, care, work),
     }
 }
 
@@ -237,7 +240,7 @@ pub(crate) fn first(
         Command::Count => show::answer(b"count", count(state, values, care, work)),
         Command::Build => return built(desk, values, care, work, roots, cells),
         Command::Relog => return said(desk, b"relog", log::relog(state, desk.least, counts, care)),
-        Command::Show(shown) => print(shown, state, care, counts, work, roots, cells),
+        Command::Show(shown) => print(shown, state, values, care, counts, work, roots, cells),
         _ => return waits(desk, command),
     }
     desk

@@ -29,6 +29,7 @@ pub enum Shown {
     Cared,
     Write,
     Logged,
+    Moves,
 }
 
 // Which word it is.
@@ -99,6 +100,9 @@ fn showing(word: &[u8]) -> Command {
     }
     if same(word, b"logged") {
         return Command::Show(Shown::Logged);
+    }
+    if same(word, b"moves") {
+        return Command::Show(Shown::Moves);
     }
     Command::Unknown
 }

@@ -5,6 +5,7 @@ mod calls;
 mod command;
 mod list;
 mod log;
+mod report;
 mod show;
 
 use calls::Desk;

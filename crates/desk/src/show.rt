@@ -22,10 +22,10 @@ use text::line::pair_line;
 use text::line::row_line;
 
 // The bytes of a line.
-const LINE: usize = 128;
+pub(crate) const LINE: usize = 128;
 
 // Writes the first bytes of a text.
-fn write(text: &[u8], length: usize) {
+pub(crate) fn write(text: &[u8], length: usize) {
     if length <= text.len() {
         io::write_all(STDOUT_FILENO, &text[..length]);
     }
