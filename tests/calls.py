@@ -3,7 +3,8 @@
 A chunk is made from the seed and its number alone, so that one can be run
 again by itself. The first chunks are the fixed ones, the others are random
 scenes: single calls, chains of calls on the same state and buffers, files,
-boards, diagrams, halves that agree, logs, swaps in the cells and larger tables.
+boards, diagrams, halves that agree, logs, swaps in the cells, reports of moves and
+larger tables.
 
 A chunk is a generator. What a call is lent is changed by that call before the
 next one is made, so that a chain meets the leftovers of its own calls.
@@ -18,6 +19,7 @@ import diagrams
 import files
 import fill_tables
 import fixed_calls
+import gains
 import lending
 import library
 import logs
@@ -215,6 +217,7 @@ def agreeing_halves(rng):
     lent = lending.lent_for(rng, n, m)
     lending.write_outputs(rng, lent, fill_tables.agreeing(rng, n, m))
     names = ["build", rng.choice(("swap", "swap", "sift", "pass")), "count", "build", "evaluate"]
+    names += ["moves"] if rng.random() < 0.4 else []
     for name in names:
         yield refusals.near_call(rng, name, lent, n, "halves that agree")
 
@@ -231,7 +234,8 @@ def logs_in_turn(rng):
         if rng.random() < 0.3:
             lending.lend_rows(rng, lent, [])
         yield call
-        for name in rng.sample(("cared", "count", "build", "sift", "pass", "swap", "evaluate"), 2):
+        names = ("cared", "count", "build", "sift", "pass", "swap", "evaluate", "moves")
+        for name in rng.sample(names, 2):
             yield refusals.near_call(rng, name, lent, n, "between logs")
 
 
@@ -280,8 +284,8 @@ def swaps_in_turn(rng):
     yield Call("evaluate_rows", {}, lent, "after swaps in turn")
     lending.lend_file_space(rng, lent)
     yield Call("write_cells", {}, lent, "after swaps in turn")
-    for name in ("count", "build"):
-        yield Call(name, {}, lent, "after swaps in turn")
+    for name in ("count", "moves", "build"):
+        yield refusals.near_call(rng, name, lent, n, "after swaps in turn")
 
 
 def near_swaps(rng):
@@ -317,6 +321,50 @@ def swapped_and_built(rng):
         yield Call("build", {}, copied, "beside a swap in the cells", law)
 
 
+# Reports of moves.
+
+
+def to_be_reported(rng):
+    """A sound start with a list that is enough; of many tables halves agree."""
+    n, m = small_size(rng)
+    lent = lending.lent_for(rng, n, m)
+    if rng.random() < 0.4:
+        lending.write_outputs(rng, lent, fill_tables.agreeing(rng, n, m))
+    gains.lend_gains(rng, lent, n * n + rng.choice((0, 0, 1)))
+    return lent
+
+
+def reports_in_turn(rng):
+    """Reports between calls that change the order, the care or what is held."""
+    lent = to_be_reported(rng)
+    n = lending.inputs_of(lent)
+    names = ("build", "build", "swap", "sift", "pass", "log_rows", "swap_cells", "count")
+    for _ in range(rng.randint(2, 4)):
+        if rng.random() < 0.4:
+            lent.contents["work"] = lending.dirty(rng, "work", len(lent.contents["work"]))
+        yield refusals.near_call(rng, "moves", lent, n, "reports in turn")
+        yield refusals.near_call(rng, rng.choice(names), lent, n, "between reports")
+    yield refusals.near_call(rng, "moves", lent, n, "reports in turn")
+
+
+def refused_reports(rng):
+    """One refusal or several at once."""
+    call = refusals.sound_call(rng, "moves", *small_size(rng))
+    refusals.spoil_all(rng, call, rng.sample(refusals.kinds_of("moves"), rng.randint(1, 3)))
+    yield call._replace(note="a report that is refused")
+
+
+def reports_and_sifts(rng):
+    yield from gains.with_sifts(to_be_reported(rng), "a report and sifts")
+
+
+def reports_and_swaps(rng):
+    lent = to_be_reported(rng)
+    moves = list(itertools.product(range(lending.inputs_of(lent)), repeat=2))
+    chosen = rng.sample(moves, min(len(moves), 4))
+    yield from gains.with_swaps(lent, "a report and swaps", chosen)
+
+
 # Chains.
 
 
@@ -333,6 +381,7 @@ def next_name(rng, lent):
         return rng.choice(lending.HOLDERS)
     names = ["load", "cared", "count", "build", "build", "evaluate", "evaluate_rows", "swap"]
     names += ["swap", "sift", "pass", "write_cells", "read_cells", "log_rows", "swap_cells"]
+    names += ["moves"]
     return rng.choice(names)
 
 
@@ -368,10 +417,9 @@ def next_call(rng, lent, note):
         lend_counted(rng, lent)
     if name == "build" and holds(lent) != reference.NOTHING and rng.random() < 0.4:
         lend_board(rng, lent)
-    n = min(lent.contents["state"][library.N], reference.ORDER_ENTRIES)
-    call = refusals.near_call(rng, name, lent, n, note)
+    call = refusals.near_call(rng, name, lent, lending.inputs_of(lent), note)
     if rng.random() < 0.08:
-        shortened = [*lending.SIZES, "answers", "counts"]
+        shortened = [*lending.SIZES, "answers", "counts", "gains"]
         buffers = [each for each in library.slices_of(name) if each in shortened]
         refusals.spoil(rng, call, rng.choice(buffers))
     return call
@@ -404,7 +452,7 @@ def large(rng):
     if n * m * 2**n <= MOST_BITS_TRIED:
         names += ["sift", "build", "evaluate"]
     if n * n * m * 2**n <= MOST_BITS_TRIED:
-        names += ["pass", "build", "evaluate_rows"]
+        names += ["pass", "build", "evaluate_rows", "moves"]
     for name in names:
         lent.lengths["cells"] = lending.LARGEST_BOARD
         if name == "build" and rng.random() < 0.3:
@@ -419,7 +467,8 @@ def large(rng):
 SCENES = {
     single: 70, loads: 8, boards: 4, diagram_calls: 9, reads: 8, written_and_read: 8, chain: 14,
     agreeing_halves: 6, logs_in_turn: 6, same_logs: 3, swaps_in_turn: 6, near_swaps: 8,
-    swapped_back: 4, swapped_and_built: 3, large: 2,
+    swapped_back: 4, swapped_and_built: 3, reports_in_turn: 5, refused_reports: 5,
+    reports_and_sifts: 3, reports_and_swaps: 2, large: 2,
 }
 
 

@@ -36,7 +36,7 @@ def paper_cases():
     cases = [desk(files.table_from_rows(outputs), look) for outputs in rows]
     cases.append(desk(two_ands, look))
     cases.append(desk(two_ands, "board 3 build state cells board 4 build state cells"))
-    cases.append(desk(mixed, "count sift 1 order state count build cells"))
+    cases.append(desk(mixed, "count moves sift 1 order state count moves build cells"))
     cases.append(desk(all_zero(10, 1), look))
     cases.append(desk(files.with_byte(all_zero(10, 1), 0, 4, 11), look))
     exclusive_or = files.table_from_rows(["0 1 1 0"])
@@ -301,7 +301,7 @@ def random_step(rng, table, words, sifting):
     n = table[4]
     kinds = ["board", "swap", "eval", "evals", "count", "build", "write", "log", "relog"]
     kinds += ["swapcells", "swapcells"]
-    kinds += ["sift", "sift", "pass", "pass"] if sifting else []
+    kinds += ["sift", "sift", "pass", "pass", "moves"] if sifting else []
     kind = rng.choice(kinds)
     if kind == "board":
         return board_words(rng, table, words)
@@ -314,8 +314,8 @@ def random_step(rng, table, words, sifting):
     if kind in ("log", "relog"):
         listed = [list_of(rows_near(rng, n))] if kind == "log" else []
         return ["least", str(least_near(rng)), kind] + listed + ["logged", "cared", "state"]
-    if kind == "count":
-        return ["count", "state", "cells"]
+    if kind in ("count", "moves"):
+        return [kind, "state", "cells"]
     if kind == "write":
         return ["write", "state"]
     if kind == "build":

@@ -23,7 +23,9 @@ from concurrent.futures.process import BrokenProcessPool
 
 import calls
 import cell_swap
+import gains
 import library
+import moves
 import network_files
 import reference
 import row_log
@@ -41,22 +43,23 @@ POSSIBLE = {
     "evaluate_rows": (0, 8, 10, 22, 24, 31), "swap": (0, 9, 10, 21), "sift": (0, 9, 10, 21),
     "pass": (0, 10, 21), "write_cells": (0, 10, 22, 24, 32),
     "read_cells": (0, 1, 2, 3, 4, 5, 6, 7, 10, 23, 24, 32), "log_rows": (0, 8, 10, 21, 33),
-    "swap_cells": (0, 9, 10, 22, 23, 24, 32),
+    "swap_cells": (0, 9, 10, 22, 23, 24, 32), "moves": (0, 10, 21, 34),
 }
-# What a success of a call does to the count, where all of it should come up.
-EFFECTS = {"swap_cells": ("more cells", "fewer cells", "as many cells")}
+# What successes of a call do to the cells, or say of them, where all of it should come up.
+CHANGES = ("more cells", "fewer cells", "as many cells")
+EFFECTS = {"swap_cells": CHANGES, "moves": CHANGES}
 
 # The calls that have a file of their own beside the reference.
 MODULES = {
     "write_cells": network_files, "read_cells": network_files, "log_rows": row_log,
-    "swap_cells": cell_swap,
+    "swap_cells": cell_swap, "moves": moves,
 }
 
 # `calls` were compared; `given` counts (call, number) and (call, effect); `text` shows a
 # difference.
 Result = namedtuple("Result", "chunk calls given text")
-# What a call is to give: the number, and the effect or None.
-Wanted = namedtuple("Wanted", "number effect")
+# What a call is to give: the number, and the effects, if any.
+Wanted = namedtuple("Wanted", "number effects")
 
 # For each chunk the call that is being made, 0 before and after: in shared
 # memory, so that it is known when a worker is no more.
@@ -98,12 +101,19 @@ def wanted_answer(call, lent):
         return "the reference broke off", repr(error)
 
 
-def effect_of(call, number, before, after):
-    """Whether a success leaves more cells than it found, or fewer."""
-    if number != 0 or call.name not in EFFECTS:
-        return None
-    more = after.contents["state"][library.COUNT] - before.contents["state"][library.COUNT]
-    return EFFECTS[call.name][0 if more > 0 else 1 if more < 0 else 2]
+def changes_in(name, before, after):
+    """The cells that a success leaves minus those it found, or that moves would bring."""
+    if name == "moves":
+        return gains.elsewhere(after)
+    return [after.contents["state"][library.COUNT] - before.contents["state"][library.COUNT]]
+
+
+def effects_of(name, number, before, after):
+    """Of a success, whether there are more cells, fewer, or as many."""
+    if number != 0 or name not in EFFECTS:
+        return set()
+    found = changes_in(name, before, after)
+    return {CHANGES[0 if more > 0 else 1 if more < 0 else 2] for more in found}
 
 
 def run_call(opened, call):
@@ -113,8 +123,8 @@ def run_call(opened, call):
     wanted_pair = wanted_answer(call, wanted)
     came_pair = opened.call(call.name, call.numbers, call.lent)
     alike = all(wanted.contents[name] == call.lent.contents[name] for name in names)
-    found = Wanted(wanted_pair[0], effect_of(call, wanted_pair[0], before, wanted))
-    broken = call.law() if wanted_pair == came_pair and alike else None
+    found = Wanted(wanted_pair[0], effects_of(call.name, wanted_pair[0], before, wanted))
+    broken = call.law(came_pair) if wanted_pair == came_pair and alike else None
     if wanted_pair == came_pair and alike and broken is None:
         return found, None
     answers = wanted_pair, came_pair
@@ -131,8 +141,7 @@ def run_chunk(job):
         begun[chunk] = done
         wanted, text = run_call(opened, call)
         given[call.name, wanted.number] += 1
-        if wanted.effect:
-            given[call.name, wanted.effect] += 1
+        given.update((call.name, effect) for effect in wanted.effects)
         if text:
             text = f"difference: seed {seed}, chunk {chunk}, call {done}\n{text}"
             break
@@ -198,7 +207,7 @@ def print_table(given):
         print(f"{name:{width}}" + "".join(f"{count:>7}" for count in counts))
     for name, effects in EFFECTS.items():
         told = [f"{effect} {given[name, effect]}" for effect in effects]
-        print(f"{name} left " + ", ".join(told))
+        print(f"{name}: " + ", ".join(told))
 
 
 def wrong_numbers(given):

@@ -39,11 +39,15 @@ Decisions where the texts leave room:
   board below the held count gives 24, since fewer cells are lent than are counted,
   and a result over the board 23 with the cells wanted.
 - The held cells were built, read or swapped, so with `swapcells` 32 never comes up.
+- `moves` is document 02's 2.8, on a list of 100 entries, so 34 never comes up. After a
+  success there is a line for each input, `input INPUT` and for every place what the move
+  brings: right-aligned in five characters after a blank, with a `+` or a `-` but for 0.
 """
 
 import sys
 
 import cell_swap
+import moves
 import network_files
 import reference
 import row_log
@@ -54,9 +58,10 @@ MOST_CELLS = 2159
 LARGEST_ROW = 65535
 LONGEST_LIST = 4096
 DESK_COUNTS = 1024
+DESK_GAINS = 100
 
 PLAIN_WORDS = ("count", "build", "order", "state", "cells", "rows", "cared", "write")
-PLAIN_WORDS += ("relog", "logged")
+PLAIN_WORDS += ("relog", "logged", "moves")
 NUMBER_WORDS = ("swap", "swapcells", "sift", "pass", "eval", "evals", "board", "least", "log")
 LIST_WORDS = ("evals", "log")
 
@@ -187,6 +192,15 @@ class Desk:
             lines.append(f"block {len(lines) - 1} {reference.stored_check(block)}")
         return lines
 
+    def move_lines(self):
+        gains, n = [0] * DESK_GAINS, self.state.n
+        refusal, value = moves.moves(self.state, gains, self.values, self.care, self.work)
+        lines = [f"moves {refusal} {value}"]
+        if refusal:
+            return lines
+        rows = [gains[n * variable : n * variable + n] for variable in range(n)]
+        return lines + [gain_line(*row) for row in enumerate(rows)]
+
     def seen_lines(self):
         counts = enumerate(self.counts[: 2**self.state.n])
         return [f"seen {row} {count}" for row, count in counts if count]
@@ -215,8 +229,16 @@ class Desk:
             return self.list_lines(number)
         if word == "write":
             return self.write_lines()
+        if word == "moves":
+            return self.move_lines()
         refusal, value = self.call(word, number)
         return [f"{word} {refusal} {value}"]
+
+
+def gain_line(variable, gains):
+    """What a variable's moves bring, each number with its sign but zero plain."""
+    signed = [f"{gain:+}" if gain else "0" for gain in gains]
+    return f"input {variable}" + "".join(f" {gain:>5}" for gain in signed)
 
 
 def number_in(text, largest):

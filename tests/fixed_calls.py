@@ -13,6 +13,7 @@ import files
 import fixed_diagrams
 import fixed_fills
 import fixed_logs
+import fixed_moves
 import fixed_reads
 import fixed_rows
 import fixed_swaps
@@ -138,7 +139,7 @@ def widest(rng):
     yield from fixed_rows.all_of(rng, lent, 10, "the widest table")
 
 
-def moves(rng):
+def orders_changed(rng):
     """Swaps, sifts and passes at the ends of what they take, from section 9's
     order of six cells, with entries past n that are wild."""
     mixed = Held(order=(0, 2, 1, 3, 9, 2, HUGE, 0, 4, 1))
@@ -182,10 +183,10 @@ def refused(rng, name):
 
 
 CHUNKS = [
-    widest, shapes, lengths_at_limits, headings, files_and_states, sizes_of_files, boards, moves,
-    ties, sizes, fixed_diagrams.all_calls, fixed_rows.all_calls,
+    widest, shapes, lengths_at_limits, headings, files_and_states, sizes_of_files, boards,
+    orders_changed, ties, sizes, fixed_diagrams.all_calls, fixed_rows.all_calls,
 ]
 CHUNKS += fixed_writes.CHUNKS + fixed_reads.CHUNKS + fixed_logs.CHUNKS + fixed_fills.CHUNKS
-CHUNKS += fixed_swaps.CHUNKS
+CHUNKS += fixed_swaps.CHUNKS + fixed_moves.CHUNKS
 CHUNKS += [functools.partial(damages, base=base) for base in cases.DAMAGE_BASES]
 CHUNKS += [functools.partial(refused, name=name) for name in library.CALLS]

@@ -9,6 +9,7 @@ from collections import namedtuple
 import cases
 import cell_files
 import files
+import gains
 import lending
 import library
 import logs
@@ -71,7 +72,8 @@ def asked_of(name, asked):
 def one(rng, name, note, held, lengths=WHOLE, asked=INSIDE, table=TWO_ANDS):
     lent = lent_with(rng, held, lengths, table)
     lending.lend_rows(rng, lent, [0, asked.row, 1], more=2)
-    logs.lend_counts(rng, lent, [row % 3 for row in range(2 ** logs.inputs_of(lent))])
+    logs.lend_counts(rng, lent, [row % 3 for row in range(2 ** lending.inputs_of(lent))])
+    gains.lend_gains(rng, lent, gains.entries(lent) + 2)
     if name == "read_cells":
         lending.lend_file(rng, lent, cell_files.network_file(FOUR_CELLS_NETWORK))
     if name == "write_cells":

@@ -11,6 +11,7 @@ import cases
 import file_cases
 import fill_cases
 import log_cases
+import move_cases
 import swap_cases
 
 
@@ -44,4 +45,5 @@ def groups(seed, random_count):
     for i in range(random_count):
         seeded(f"random {i}", cases.random_cases)
     made |= fill_cases.groups(seed) | log_cases.groups(seed) | swap_cases.groups(seed)
+    made |= move_cases.groups(seed)
     return made | file_cases.groups(seed, random_count)

@@ -47,6 +47,11 @@ def dirty(rng, name, length):
 # States.
 
 
+def inputs_of(lent):
+    """The state's n; in a chain the words may hold any number."""
+    return min(lent.contents["state"][library.N], reference.ORDER_ENTRIES)
+
+
 def tail_of_order(rng, n):
     """Entries past n, which no call may use: plain, repeated or wild."""
     length = reference.ORDER_ENTRIES - n

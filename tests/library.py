@@ -24,7 +24,7 @@ TYPES = {
 SLICES = {
     "state": "u64", "file": "u8", "values": "u8", "care": "u8", "work": "u8",
     "roots": "u16", "cells": "u16", "rows": "u16", "answers": "u16",
-    "counts": "u32",
+    "counts": "u32", "gains": "i32",
 }
 NUMBERS = {"row": "u64", "place": "u64", "input": "u64", "limit": "u32", "least": "u32"}
 
@@ -43,6 +43,7 @@ CALLS = {
     "read_cells": "state file values care work roots cells",
     "log_rows": "state rows least counts care",
     "swap_cells": "state place work roots cells",
+    "moves": "state gains values care work",
 }
 
 # The state's words. Those not named here are never read or changed.
@@ -87,9 +88,9 @@ def write_state(words, state):
 
 
 # A call to be made: `numbers` are by the argument's name, `lent` is a Lent, and
-# `note` tells a person where it is from. `law` is asked when the call is done and no
-# difference was found: it tells what else should hold and does not, or None.
-Call = namedtuple("Call", "name numbers lent note law", defaults=(lambda: None,))
+# `note` tells a person where it is from. `law` is asked, with the answer, when the call is
+# done and no difference was found: it tells what else should hold and does not, or None.
+Call = namedtuple("Call", "name numbers lent note law", defaults=(lambda answer: None,))
 
 
 class Lent:

@@ -7,17 +7,12 @@ named `spoil_..` make a refusal due.
 
 import lending
 import library
-import reference
+from lending import inputs_of
 from library import Call
 from row_log import MOST_RECORDS
 
 # A least that asks for nothing, for little, or for more than is ever seen.
 LEASTS = (0, 1, 1, 2, 3, 2**16, 2**31, MOST_RECORDS - 1, MOST_RECORDS)
-
-
-def inputs_of(lent):
-    """The state's n; in a chain the words may hold any number."""
-    return min(lent.contents["state"][library.N], reference.ORDER_ENTRIES)
 
 
 # Counts.

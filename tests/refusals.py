@@ -12,6 +12,7 @@ import cases
 import cell_files
 import diagrams
 import files
+import gains
 import lending
 import library
 import logs
@@ -153,7 +154,7 @@ SPOIL_CALL = {
 }
 SPOIL_LENT = {
     BREACH: break_filed_diagram, "rows": spoil_rows, "answers": spoil_answers,
-    "counts": logs.spoil_counts, RECORDS: logs.spoil_records,
+    "counts": logs.spoil_counts, RECORDS: logs.spoil_records, "gains": gains.spoil_gains,
 }
 
 
@@ -182,16 +183,19 @@ def spoil_all(rng, call, kinds):
 
 
 def near_call(rng, name, lent, n, note):
-    """The call, asked for numbers and rows that are mostly not refused."""
+    """The call, asked for numbers, rows and lists that are mostly not refused."""
     if name == "log_rows":
         return logs.call_near(rng, lent, note)
+    if name == "moves":
+        return gains.call_near(rng, lent, note)
     if name == "evaluate_rows":
         lending.lend_rows_near(rng, lent, n)
     return Call(name, lending.numbers_near(rng, name, n), lent, note)
 
 
 def sound_call(rng, name, n, m):
-    """No refusal due but, now and then, for the number, one of the rows or the records."""
+    """No refusal due but, now and then, for the number, one of the rows, the records or
+    a list that is too short."""
     lent = lending.lent_for(rng, n, m)
     if name == "load":
         lending.lend_file(rng, lent, cases.random_table(rng, n, m))

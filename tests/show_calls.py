@@ -36,6 +36,8 @@ def slice_text(name, lent, words):
         return f"{text}: {shown(content[:16])}"
     if name == "counts" and n <= 10:
         return f"{text}: {shown(content[: 2**n])}"
+    if name == "gains" and n <= 10:
+        return f"{text}: {shown(content[: n * n])}"
     if name in ("rows", "answers"):
         return f"{text}: {shown(content[:length])}"
     if name == "file":

@@ -2,9 +2,9 @@
 
     python3 tests/slips.py --library PATH [--seed S] [--skip-fixed] [--named TEXT]
 
-Each slip is made in a copy of reference.py, network_files.py, row_log.py or
-cell_swap.py, in a folder of its own with the other files, and the comparison there
-must find a difference. A line says after how many calls, counted in the sequence of the chunks.
+Each slip is made in a copy of reference.py, network_files.py, row_log.py, cell_swap.py
+or moves.py, in a folder of its own with the other files, and the comparison there must
+find a difference. A line says after how many calls, counted in the sequence of the chunks.
 The exit status is 1 if one slip is not found. Run by hand: when the calls of the
 comparison change.
 `--skip-fixed` leaves the fixed calls out, to see what the random ones find;
@@ -23,6 +23,7 @@ from pathlib import Path
 import file_slips
 import fill_slips
 import log_slips
+import move_slips
 import slip_list
 import swap_slips
 
@@ -31,6 +32,7 @@ SLIPS = [("reference.py", *slip) for slip in slip_list.SLIPS + fill_slips.SLIPS]
 SLIPS += [("network_files.py", *slip) for slip in file_slips.SLIPS]
 SLIPS += [("row_log.py", *slip) for slip in log_slips.SLIPS]
 SLIPS += [("cell_swap.py", *slip) for slip in swap_slips.SLIPS]
+SLIPS += [("moves.py", *slip) for slip in move_slips.SLIPS]
 
 HERE = Path(__file__).resolve().parent
 LAST_LINE = re.compile(r"compared (\d+) calls, (\d+) differences")

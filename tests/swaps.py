@@ -91,7 +91,7 @@ def back_again(lent):
     m = lent.contents["state"][library.M]
     before = held(lent, m)
 
-    def law():
+    def law(_answer):
         unlike = told(before, held(lent, m))
         return f"two swaps at one place don't give back: {unlike}" if unlike else None
 
@@ -101,7 +101,7 @@ def back_again(lent):
 def as_swapped(swapped, lent):
     """The law that a swap and a build leave what the swap in the cells has left."""
 
-    def law():
+    def law(_answer):
         unlike = told(held(swapped, reference.ROOTS), held(lent, reference.ROOTS))
         return f"a swap and a build differ from the swap in the cells: {unlike}" if unlike else None
 

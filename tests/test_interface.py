@@ -85,6 +85,7 @@ class Programs(unittest.TestCase):
                 "examples/and-or.table",
             ),
             ("build swapcells 1 order cells", TABLE),
+            ("order moves sift 1 order moves", TABLE),
         ):
             shown = shown_in_readme(f"target/bin/desk {words} < {path}")
             with self.subTest(words):
