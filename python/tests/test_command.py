@@ -1,0 +1,148 @@
+"""Tests of the command: formats there and back, pictures and exports, and what a person is told of bad input."""
+
+import itertools
+import pathlib
+import subprocess
+import sys
+import tempfile
+import unittest
+import xml.etree.ElementTree
+
+ROOT = pathlib.Path(__file__).resolve().parent.parent.parent
+sys.path.insert(0, str(ROOT / "python"))
+
+EXAMPLES = ROOT / "examples"
+GUARD = "examples/bounce-guard.txt"
+CROSSED = "examples/and-or-crossed.txt"
+
+
+def yav(*words):
+    return subprocess.run([str(ROOT / "yav"), *map(str, words)], cwd=ROOT, capture_output=True, text=True)
+
+
+class WithFolder(unittest.TestCase):
+    def setUp(self):
+        folder = tempfile.TemporaryDirectory()
+        self.addCleanup(folder.cleanup)
+        self.folder = pathlib.Path(folder.name)
+
+    def written(self, *words):
+        """What a command writes to standard output."""
+        run = yav(*words)
+        self.assertEqual((run.returncode, run.stderr), (0, ""))
+        return run.stdout
+
+
+class Converting(WithFolder):
+    def test_there_and_back_through_every_format(self):
+        for drawing in sorted(EXAMPLES.glob("*.txt")):
+            path = drawing
+            for ending in (".pla", ".drawing", ".table", ".pla", ".table"):
+                to = self.folder / f"{drawing.stem}{ending}"
+                self.written("convert", path, to)
+                path = to
+            self.assertEqual(path.read_bytes(), drawing.with_suffix(".table").read_bytes())
+
+    def test_the_examples_are_what_the_command_makes(self):
+        for drawing in sorted(EXAMPLES.glob("*.txt")):
+            for ending in (".table", ".cells"):
+                to = self.folder / f"made{ending}"
+                self.written("convert", drawing, to)
+                self.assertEqual(to.read_bytes(), drawing.with_suffix(ending).read_bytes(), drawing.with_suffix(ending).name)
+            self.assertEqual(self.written("show", drawing, "--svg"), drawing.with_suffix(".svg").read_text())
+
+    def test_a_network_file_gives_its_table(self):
+        self.written("convert", "examples/bounce-guard.cells", self.folder / "guard.table")
+        self.written("convert", self.folder / "guard.table", self.folder / "guard.cells")
+        self.assertEqual((self.folder / "guard.cells").read_bytes(), (EXAMPLES / "bounce-guard.cells").read_bytes())
+
+    def test_a_format_can_be_named(self):
+        self.written("convert", "examples/xor.table", self.folder / "plain", "--to", "pla")
+        self.written("convert", self.folder / "plain", self.folder / "again", "--from", "pla", "--to", "table")
+        self.assertEqual((self.folder / "again").read_bytes(), (EXAMPLES / "xor.table").read_bytes())
+
+
+class Showing(WithFolder):
+    def test_pictures(self):
+        self.assertTrue(xml.etree.ElementTree.fromstring(self.written("show", GUARD, "--svg")).tag.endswith("svg"))
+        self.assertTrue(self.written("show", GUARD, "--dot").startswith("digraph"))
+        self.assertIn("held", self.written("show", GUARD))
+        self.assertEqual(self.written("show", GUARD), self.written("show", GUARD, "--text"))
+
+    def test_a_file_to_write(self):
+        out = self.folder / "guard.svg"
+        self.assertEqual(self.written("show", GUARD, "--svg", "-o", out), "")
+        self.assertEqual(out.read_text(), self.written("show", GUARD, "--svg"))
+
+    def test_exports(self):
+        self.assertIn(".names", self.written("export", GUARD, "--blif"))
+        self.assertIn("endmodule", self.written("export", GUARD, "--verilog"))
+        self.assertNotEqual(yav("export", GUARD).returncode, 0)
+
+    def test_orders(self):
+        self.assertEqual(self.written("order", CROSSED), "6 cells in the order a c b d\n")
+        self.assertEqual(self.written("order", CROSSED, "--sift"), "4 cells in the order b a c d\n")
+        self.assertEqual(self.written("order", CROSSED, "--pass", "3"), "6 cells in the order a c b d\n")
+
+    def test_moves(self):
+        lines = self.written("moves", CROSSED).splitlines()
+        self.assertEqual(lines[1].split(), ["a", "c", "b", "d"])
+        self.assertEqual([line.split() for line in lines[2:]], [
+            ["a", "0", "0", "0", "0"], ["c", "0", "0", "-2", "-2"], ["b", "-2", "-2", "0", "0"], ["d", "0", "0", "0", "0"],
+        ])
+        self.assertIn("+2", self.written("moves", CROSSED, "--sift"))
+
+    def test_evaluation(self):
+        self.assertEqual(self.written("evaluate", GUARD, "11110", "00001"), (
+            "a b c d held | hold advance\n"
+            "1 1 1 1  0   |  1      1\n"
+            "0 0 0 0  1   |  0      0\n"
+        ))
+        self.assertEqual(len(self.written("evaluate", "examples/xor.txt").splitlines()), 5)
+
+
+class Readme(WithFolder):
+    def test_it_shows_what_is_written(self):
+        lines = (ROOT / "README.md").read_text().splitlines()
+        starts = [at for at, line in enumerate(lines) if line.startswith("    $ ./yav ")]
+        self.assertEqual(len(starts), 3)
+        for at in starts:
+            shown = itertools.takewhile(lambda line: line.startswith("    ") and not line.startswith("    $"), lines[at + 1 :])
+            written = self.written(*lines[at].split()[2:])
+            self.assertEqual([line[4:] for line in shown], written.splitlines())
+
+
+class Telling(WithFolder):
+    def refused(self, wanted, *words):
+        """A message on one line, status 1, and no file written."""
+        run = yav(*words)
+        self.assertEqual((run.returncode, run.stdout), (1, ""))
+        self.assertEqual(run.stderr.count("\n"), 1, run.stderr)
+        self.assertIn(wanted, run.stderr)
+        self.assertEqual(sorted(path.name for path in self.folder.iterdir()), ["bad"])
+
+    def bad(self, content):
+        path = self.folder / "bad"
+        path.write_bytes(content)
+        return path
+
+    def test_bad_drawings_and_plas(self):
+        out = self.folder / "out.table"
+        bad = self.bad(b"a b | y\n0 0 | 1\n0 2 | 1\n")
+        self.refused(f"{bad}:3:3: ", "convert", bad, out, "--from", "drawing")
+        bad = self.bad(b".i 2\n.o 1\n.type fr\n1- 1\n11 0\n.e\n")
+        self.refused("4", "convert", bad, out, "--from", "pla")
+        self.refused(f"{bad}:1", "show", bad, "--svg", "-o", self.folder / "out.svg", "--from", "drawing")
+
+    def test_bad_files_and_rows(self):
+        bad = self.bad((EXAMPLES / "xor.table").read_bytes()[:1000])
+        self.refused("refused 1: ", "convert", bad, self.folder / "out.pla", "--from", "table")
+        self.refused("refused 3: ", "export", self.bad((EXAMPLES / "xor.table").read_bytes()), "--blif", "--from", "cells")
+        self.refused("it is no text", "show", self.bad(b"\xff\xfe"), "--from", "drawing")
+        self.refused("its ending tells no format", "show", self.bad(b""))
+        self.refused("No such file", "show", self.folder / "none.txt")
+        self.refused("12 is no row", "evaluate", "examples/xor.txt", "12")
+
+
+if __name__ == "__main__":
+    unittest.main()

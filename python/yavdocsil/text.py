@@ -1,0 +1,54 @@
+"""A diagram as text for a terminal: a line for each output, then one or more for each place with its input's name and its cells."""
+
+from __future__ import annotations
+
+import unicodedata
+
+from .diagram import Diagram, cell_of, is_constant, is_inverted
+
+NOTATION = (
+    "i: 0 -> j, 1 -> k  is cell i: on to cell j if its line's input is 0, to k if 1.",
+    "~j is cell j inverted; const 0 and const 1 are the constants.",
+)
+BETWEEN = 3
+
+
+def write(diagram: Diagram, width: int = 80) -> str:
+    """The picture, in lines of that width as far as a name and a cell fit into it."""
+    names = [*diagram.outputs, *diagram.inputs]
+    label = max(map(_columns, names), default=0)
+    lines = [f"{_padded(name, label)} -> {_target(root)}" for name, root in zip(diagram.outputs, diagram.roots)]
+    if diagram.inputs:
+        lines.append("")
+    digits = len(str(len(diagram.cells)))
+    cells = {cell.number: f"{cell.number:{digits}}: 0 -> {_target(cell.low)}, 1 -> {_target(cell.high)}" for cell in diagram.cells}
+    column = max(map(len, cells.values()), default=0)
+    for place in range(len(diagram.inputs)):
+        entries = [cells[cell.number].ljust(column) for cell in diagram.cells_at(place)]
+        lines += _level(_padded(diagram.input_at(place), label), entries or ["(never asked)"], width)
+    return "\n".join([*lines, "", *NOTATION]) + "\n"
+
+
+def _level(label: str, entries: list[str], width: int) -> list[str]:
+    """A place's line, and further ones where its cells don't fit into one."""
+    indent = _columns(label) + BETWEEN
+    per_line = max(1, (width - indent + BETWEEN) // (len(entries[0]) + BETWEEN))
+    chunks = [entries[at : at + per_line] for at in range(0, len(entries), per_line)]
+    starts = [label] + [" " * _columns(label)] * (len(chunks) - 1)
+    space = " " * BETWEEN
+    return [(start + space + space.join(chunk)).rstrip() for start, chunk in zip(starts, chunks)]
+
+
+def _target(reference: int) -> str:
+    if is_constant(reference):
+        return f"const {reference}"
+    return f"{'~' if is_inverted(reference) else ''}{cell_of(reference)}"
+
+
+def _columns(text: str) -> int:
+    """How many columns of a terminal a name takes."""
+    return sum(0 if unicodedata.combining(one) else 2 if unicodedata.east_asian_width(one) in "WF" else 1 for one in text)
+
+
+def _padded(text: str, columns: int) -> str:
+    return text + " " * (columns - _columns(text))
