@@ -5,16 +5,12 @@ reference, and the drawings to what their titles say, written here in Python.
 """
 
 import itertools
-import sys
 import unittest
-from pathlib import Path
 
-EXAMPLES = Path(__file__).resolve().parent.parent / "examples"
-sys.path.append(str(EXAMPLES))
-
+import drawings
 import expected
 import files
-import make
+from drawings import EXAMPLES
 
 
 def drawing(name):
@@ -23,7 +19,7 @@ def drawing(name):
 
 def network_in(text):
     """The printed network that a drawing shows."""
-    lines = [line.strip() for line in make.indented(text)]
+    lines = [line.strip() for line in drawings.indented(text)]
     start = [line.split()[0] for line in lines].index("inputs")
     return "".join(line + "\n" for line in lines[start:])
 
@@ -56,23 +52,23 @@ def drawn_from(function, n, is_free=lambda *bits: False):
 class Examples(unittest.TestCase):
     def test_each_table_is_made_from_its_drawing(self):
         tables = sorted(EXAMPLES.glob("*.table"))
-        self.assertEqual([table.stem for table in tables], [each.stem for each in make.drawings()])
+        self.assertEqual([table.stem for table in tables], [each.stem for each in drawings.drawings()])
         for table in tables:
             with self.subTest(table.name):
-                self.assertEqual(table.read_bytes(), make.table_of(drawing(table.stem)))
+                self.assertEqual(table.read_bytes(), drawings.table_of(drawing(table.stem)))
 
     def test_each_network_file_is_made_from_its_drawing(self):
         networks = sorted(EXAMPLES.glob("*.cells"))
-        self.assertEqual([network.stem for network in networks], make.NETWORK_FILES)
+        self.assertEqual([network.stem for network in networks], [each.stem for each in drawings.drawings()])
         for network in networks:
             with self.subTest(network.name):
-                self.assertEqual(network.read_bytes(), make.network_file_of(drawing(network.stem)))
+                self.assertEqual(network.read_bytes(), drawings.network_file_of(drawing(network.stem)))
 
     def test_each_drawing_shows_the_network_of_its_table(self):
-        for each in make.drawings():
+        for each in drawings.drawings():
             with self.subTest(each.name):
                 text = each.read_text()
-                self.assertEqual(network_in(text), expected.print_text(make.table_of(text)))
+                self.assertEqual(network_in(text), expected.print_text(drawings.table_of(text)))
 
     def test_drawings_say_what_their_titles_say(self):
         wanted = {
@@ -83,10 +79,10 @@ class Examples(unittest.TestCase):
         }
         for name, rows in wanted.items():
             with self.subTest(name):
-                self.assertEqual(make.drawn_rows(drawing(name))[2], rows)
+                self.assertEqual(drawings.drawn_rows(drawing(name))[2], rows)
 
     def test_sifting_uncrosses(self):
-        table = make.table_of(drawing("and-or-crossed"))
+        table = drawings.table_of(drawing("and-or-crossed"))
         text = expected.desk_text(table, ["sift", "1", "order"])
         self.assertEqual(text, "load 0 0\nsift 0 4\norder 1 0 2 3\n")
 
@@ -108,7 +104,7 @@ class Examples(unittest.TestCase):
         for text in wrong:
             self.assertNotEqual(text, sound)
             with self.assertRaises(ValueError):
-                make.table_of(text)
+                drawings.table_of(text)
 
 
 if __name__ == "__main__":

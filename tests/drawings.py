@@ -1,6 +1,4 @@
-"""Makes every NAME.table of this folder from its drawing, NAME.txt, and the network files.
-
-    python3 examples/make.py
+"""Reads the drawings of examples/ once more, by itself: the table file and the network file that the command has to make of each.
 
 Of a drawing only indented lines count. Those with a bar are the table: first the
 names of the inputs, a bar and those of the outputs, then every row from row 0,
@@ -8,18 +6,13 @@ with `-` for a free value. A line `places` names the inputs from the top place
 down; without one they stand as in the columns. The rest is for the reader.
 """
 
-import sys
 from pathlib import Path
-
-HERE = Path(__file__).resolve().parent
-sys.path.insert(0, str(HERE.parent / "tests"))
 
 import expected
 import files
 
+EXAMPLES = Path(__file__).resolve().parent.parent / "examples"
 INDENT = "    "
-# The examples that have a network file, NAME.cells, beside their table.
-NETWORK_FILES = ["bounce-guard"]
 
 
 def indented(text):
@@ -75,16 +68,4 @@ def network_file_of(text):
 
 
 def drawings():
-    return sorted(HERE.glob("*.txt"))
-
-
-def main():
-    for drawing in drawings():
-        text = drawing.read_text()
-        drawing.with_suffix(".table").write_bytes(table_of(text))
-        if drawing.stem in NETWORK_FILES:
-            drawing.with_suffix(".cells").write_bytes(network_file_of(text))
-
-
-if __name__ == "__main__":
-    main()
+    return sorted(EXAMPLES.glob("*.txt"))
