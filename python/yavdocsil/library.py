@@ -11,6 +11,8 @@ import os
 import pathlib
 from typing import Any
 
+from . import bits
+from .content import Mark
 from .errors import NotBuilt, Refused
 
 VARIABLE = "YAVDOCSIL_LIBRARY"
@@ -100,6 +102,14 @@ class Buffers:
         self.values, self.care, self.work = octets(TABLE_BYTES), octets(TABLE_BYTES), octets(WORK_BYTES)
         self.roots = numbers(ctypes.c_uint16, ROOTS)
         self.cells = numbers(ctypes.c_uint16, 3 * board)
+
+    @property
+    def columns(self) -> tuple[tuple[Mark, ...], ...]:
+        """Each output's marks in the values and care, by the state's inputs and outputs."""
+        rows, m = 2 ** self.state[INPUTS], self.state[OUTPUTS]
+        values, care = (bits.unpacked(bytes(plane), m * rows) for plane in (self.values, self.care))
+        marks = [value if cared else None for value, cared in zip(values, care)]
+        return tuple(tuple(marks[rows * j : rows * (j + 1)]) for j in range(m))
 
     def call(self, name: str, **others: Any) -> int:
         """A call on these buffers, and on what is given beside them."""

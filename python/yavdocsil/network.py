@@ -6,7 +6,6 @@ import ctypes
 from collections.abc import Callable, Sequence
 from typing import Optional, Union
 
-from . import bits
 from .content import names_from
 from .diagram import Cell, Diagram
 from .errors import Refused
@@ -82,11 +81,7 @@ class Network:
     @property
     def table(self) -> Table:
         """The table held, with its present care and order."""
-        rows = 2 ** len(self.inputs)
-        values, care = (bits.unpacked(plane, rows * len(self.outputs)) for plane in (self._lent.values, self._lent.care))
-        marks = [value if cared else None for value, cared in zip(values, care)]
-        columns = tuple(tuple(marks[rows * j : rows * (j + 1)]) for j in range(len(self.outputs)))
-        return Table(columns, self.inputs, self.outputs, self.order)
+        return Table(self._lent.columns, self.inputs, self.outputs, self.order)
 
     # The calls.
 

@@ -43,8 +43,4 @@ def read(data: bytes) -> Content:
     lent = Buffers(board=0)
     lent.call("load", file=octets(data))
     n, m = lent.state[INPUTS], lent.state[OUTPUTS]
-    rows = 2**n
-    values, care = bits.unpacked(lent.values, m * rows), bits.unpacked(lent.care, m * rows)
-    marks = [value if cared else None for value, cared in zip(values, care)]
-    columns = tuple(tuple(marks[rows * j : rows * (j + 1)]) for j in range(m))
-    return Content(columns, names_from("x", n), names_from("y", m), tuple(lent.state[ORDER : ORDER + n]))
+    return Content(lent.columns, names_from("x", n), names_from("y", m), tuple(lent.state[ORDER : ORDER + n]))

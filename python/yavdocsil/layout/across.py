@@ -2,7 +2,9 @@
 
 from __future__ import annotations
 
-from .parts import ROOT, HIGH, PORT_MARGIN, MARGIN, Node, Segment, Edge, Stub, Row, Layout
+from typing import Union
+
+from .parts import HIGH, MARGIN, PORT_MARGIN, ROOT, Edge, Layout, Node, Row, Segment, Stub
 
 WIDE_PORT, LEAVE = 12.0, 9.0
 PLACING_ROUNDS = 30

@@ -5,7 +5,7 @@ from __future__ import annotations
 import math
 
 from ..diagram import Diagram
-from .parts import NODE_HEIGHT, MARGIN, STUB_DROP, STUB_SIZE, Node, Segment, Row, Layout, text_width
+from .parts import MARGIN, NODE_HEIGHT, STUB_DROP, STUB_SIZE, Layout, Node, Row, Segment, text_width
 
 STEM = 11.0
 THIN_ROW = 18.0

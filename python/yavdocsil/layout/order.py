@@ -4,7 +4,7 @@ from __future__ import annotations
 
 from bisect import bisect_right, insort
 
-from .parts import Node, Layout
+from .parts import Layout, Node
 
 # Orders are sought with so many sweeps and rounds of sifting; in a large diagram with fewer sweeps alone.
 SWEEPS, SIFTS, LARGE, LARGE_SWEEPS = 12, 6, 700, 8

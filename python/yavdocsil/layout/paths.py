@@ -2,7 +2,7 @@
 
 from __future__ import annotations
 
-from .parts import NODE_HEIGHT, SLACK, Point, Piece, Segment, Edge, Row
+from .parts import NODE_HEIGHT, SLACK, Edge, Piece, Point, Row, Segment
 
 
 def _slope(before: Segment, after: Segment, rows: list[Row]) -> float:
