@@ -104,14 +104,15 @@ class Network:
         the same pass leaves under the limit n × k. So it costs the passes of all smaller limits, too.
         """
         n = len(self.inputs)
-        if progress is not None:
-            start = bytes(self._lent.state)
-            for turn in range(1, min(n, limit // n if n else 0) + 1):
-                ctypes.memmove(self._lent.state, start, len(start))
-                self._lent.call("pass", limit=n * turn)
-                progress(turn, self.count())
+        turns = min(n, limit // n) if n else 0
+        if progress is None or turns < 1:
+            return self._lent.call("pass", limit=min(limit, NO_LIMIT))
+        start, tried = bytes(self._lent.state), 0
+        for turn in range(1, turns + 1):
             ctypes.memmove(self._lent.state, start, len(start))
-        return self._lent.call("pass", limit=min(limit, NO_LIMIT))
+            tried = self._lent.call("pass", limit=n * turn)
+            progress(turn, self.count())
+        return tried
 
     def swap(self, place: int) -> None:
         """Exchanges a place and the next in the order; the table is held then, and no network."""
