@@ -2,6 +2,7 @@
 
 import os
 import pathlib
+import re
 import subprocess
 import sys
 import unittest
@@ -12,6 +13,7 @@ sys.path.insert(0, str(PYTHON))
 
 from yavdocsil import Cell, Network, Refused, Table
 from yavdocsil.errors import REFUSALS
+from yavdocsil.table_file import sealed
 
 EXCLUSIVE_OR = Table.from_rows(["0", "1", "1", "0"])
 # Input 0 and 1, or 2 and 3, in the order that takes six cells.
@@ -27,7 +29,7 @@ class Calls(unittest.TestCase):
         network = Network(EXCLUSIVE_OR)
         self.assertFalse(network.is_built)
         self.assertEqual((network.cells, network.roots), ((), ()))
-        self.assertEqual(network.build(), 2)
+        self.assertEqual((network.cared(), network.build()), (4, 2))
         self.assertEqual(network.cells, (Cell(1, 0, 4, 5), Cell(2, 1, 0, 1)))
         self.assertEqual(network.roots, (2,))
 
@@ -125,9 +127,32 @@ class Refusals(unittest.TestCase):
         self.refused(8, network.evaluate, [65536])
         self.refused(8, network.log, [0, -1])
         self.refused(23, Network(EXCLUSIVE_OR, board=1).build, value=2)
+        network._counts[0] = 2**32 - 1
+        self.refused(33, network.log, [0])
+
+    def test_bad_table_files(self):
         self.refused(1, Table.from_file, b"")
+        self.refused(2, Table.from_file, b"\1" * 512)
         self.refused(3, Table.from_file, (ROOT / "examples" / "bounce-guard.cells").read_bytes())
+        for number, heading in (
+            (4, [11, 1]), (5, [2, 0, 0, 1]), (5, [2, 17, 0, 1]), (6, [2, 1, 0, 0]), (7, [2, 1, 0, 1, 9]), (1, [2, 1, 0, 1]),
+        ):
+            self.refused(number, Table.from_file, sealed(1, 0, heading))
+
+    def test_bad_network_files(self):
         self.refused(2, Network.from_file, b"\1" * 512)
+        # One input and one output; the count stands at bytes 16 and 17, the first root behind it.
+        heading = [1, 1, 0] + [0] * 9
+        self.refused(24, Network.from_file, sealed(4, 0, heading + [0, 0, 5]))
+        alike = sealed(4, 0, heading + [1, 0, 2]) + sealed(5, 1, [0, 0, 0, 0, 0, 0])
+        self.refused(32, Network.from_file, alike)
+        self.refused(23, Network.from_file, alike, 0, value=1)
+
+    def test_every_number_of_the_header_has_words(self):
+        header = (ROOT / "include" / "yavdocsil.h").read_text()
+        numbers = header[header.index("YAV_DONE = 0") :]
+        found = {int(number) for number in re.findall(r"^ +YAV_\w+ = (\d+)", numbers[: numbers.index("};")], re.MULTILINE)}
+        self.assertEqual(found, set(REFUSALS))
 
     def test_numbers_that_fit_nowhere(self):
         network = Network(EXCLUSIVE_OR)

@@ -85,6 +85,10 @@ class Network:
 
     # The calls.
 
+    def cared(self) -> int:
+        """The number of marks that are not free."""
+        return self._lent.call("cared")
+
     def count(self) -> int:
         """The cells that the table's network takes under the present order."""
         return self._lent.call("count")
