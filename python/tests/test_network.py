@@ -1,5 +1,6 @@
 """Tests of networks over the library: every call, its refusals by number and word, and files there and back."""
 
+import itertools
 import os
 import pathlib
 import re
@@ -76,10 +77,34 @@ class Calls(unittest.TestCase):
         network.swap(1)
         self.assertEqual((network.order, network.is_built), ((0, 2, 1, 3), False))
 
+    def test_any_order_can_be_taken(self):
+        for order in itertools.permutations(range(4)):
+            network = Network(CROSSED)
+            network.reorder(order)
+            self.assertEqual(network.table, CROSSED.reordered(order))
+        network.reorder(["x1", 0, "x2", 3])
+        self.assertEqual((network.order, network.count()), ((1, 0, 2, 3), 4))
+        network.build()
+        network.reorder(network.order)
+        self.assertTrue(network.is_built)
+        for wrong in ([0, 1, 2], [0, 1, 2, 2], [0, 1, 2, 4], ["x0", "x1", "x2", "y0"], []):
+            with self.assertRaises(ValueError):
+                network.reorder(wrong)
+        self.assertEqual((network.order, network.is_built), ((1, 0, 2, 3), True))
+        Network(Table.from_rows(["1"])).reorder([])
+
+    def test_a_board_holds_the_network_that_is_built_there(self):
+        network = Network(CROSSED)
+        self.assertEqual(network.on_board(6).diagram, network.diagram)
+        with self.assertRaises(Refused) as caught:
+            network.on_board(5)
+        self.assertEqual((caught.exception.number, caught.exception.value, caught.exception.board), (23, 6, 5))
+
     def test_a_log_makes_the_care(self):
         network = Network(CROSSED)
         network.log([0, 0, 3, 5, 12, 12])
         self.assertEqual([row for row, mark in enumerate(network.table.columns[0]) if mark is not None], [0, 3, 5, 12])
+        self.assertEqual([(row, count) for row, count in enumerate(network.seen) if count], [(0, 2), (3, 1), (5, 1), (12, 2)])
         network.log([], least=2)
         self.assertEqual([row for row, mark in enumerate(network.table.columns[0]) if mark is not None], [0, 12])
 
@@ -162,8 +187,10 @@ class Refusals(unittest.TestCase):
         self.assertEqual(network.table, EXCLUSIVE_OR)
 
     def test_the_cells_wanted_are_told(self):
-        with self.assertRaisesRegex(Refused, "refused 23: the board has too few cells: 2 are wanted"):
+        with self.assertRaisesRegex(Refused, "refused 23: the board has too few cells: 2 are wanted, it has 1$"):
             Network(EXCLUSIVE_OR, board=1).build()
+        with self.assertRaisesRegex(Refused, "1 is wanted, it has 0$"):
+            Network(Table.from_rows("01"), board=0).build()
 
     def test_a_library_that_is_not_there_is_told(self):
         code = "import yavdocsil; yavdocsil.Network(yavdocsil.Table.from_rows(['1']))"

@@ -2,6 +2,8 @@
 
 from __future__ import annotations
 
+from typing import Optional
+
 # The refusals of the calls, by the papers' numbers.
 REFUSALS = {
     1: "the file is empty, not of whole blocks, or not of as many as its heading asks for",
@@ -23,6 +25,7 @@ REFUSALS = {
     33: "there are more records than 32 bits count",
     34: "the report needs more entries",
 }
+TOO_SMALL = 23
 
 
 class Error(Exception):
@@ -30,12 +33,13 @@ class Error(Exception):
 
 
 class Refused(Error):
-    """A call was refused: `number` is the papers', `value` what it adds (the cells wanted, with 23)."""
+    """A call was refused: `number` is the papers', `value` what it adds (the cells wanted, with 23), `board` the cells that were lent."""
 
-    def __init__(self, number: int, value: int = 0) -> None:
-        self.number, self.value = number, value
-        wanted = f": {value} are wanted" if number == 23 else ""
-        super().__init__(f"refused {number}: {REFUSALS.get(number, 'for a reason unknown here')}{wanted}")
+    def __init__(self, number: int, value: int = 0, board: Optional[int] = None) -> None:
+        self.number, self.value, self.board = number, value, board
+        wanted = f": {value} {'is' if value == 1 else 'are'} wanted" if number == TOO_SMALL else ""
+        has = f", it has {board}" if wanted and board is not None else ""
+        super().__init__(f"refused {number}: {REFUSALS.get(number, 'for a reason unknown here')}{wanted}{has}")
 
 
 class Malformed(Error):

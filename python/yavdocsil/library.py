@@ -21,6 +21,8 @@ BUILT = CHECKOUT / "target" / "lib" / "libyavdocsil.so"
 
 STATE_WORDS, TABLE_BYTES, WORK_BYTES, ROOTS, MOST_CELLS = 40, 2048, 32768, 16, 2159
 FILE_BYTES, BLOCK_BYTES, BLOCK_CELLS = 13824, 512, 84
+# No network takes more than the most cells, but a board may have them: as many as references of 16 bits can name.
+MOST_BOARD = 2**15 - 1
 # Where the state's words stand, and the number of a stage.
 INPUTS, OUTPUTS, COUNT, STAGE, ORDER = 0, 1, 2, 3, 8
 TABLE, NETWORK = 1, 2
@@ -90,7 +92,7 @@ def call(name: str, **arguments: Any) -> int:
     function.restype = ctypes.c_uint64
     number, value = divmod(function(*passed), 2**32)
     if number:
-        raise Refused(number, value)
+        raise Refused(number, value, len(arguments["cells"]) // 3 if "cells" in arguments else None)
     return value
 
 

@@ -83,6 +83,17 @@ class Network:
         """The table held, with its present care and order."""
         return Table(self._lent.columns, self.inputs, self.outputs, self.order)
 
+    @property
+    def seen(self) -> tuple[int, ...]:
+        """How often each row was logged."""
+        return tuple(self._counts)
+
+    def on_board(self, board: int) -> Network:
+        """The same table with its network built on a board of so many cells."""
+        other = Network(self.table, board)
+        other.build()
+        return other
+
     # The calls.
 
     def cared(self) -> int:
@@ -117,6 +128,15 @@ class Network:
             tried = self._lent.call("pass", limit=n * turn)
             progress(turn, self.count())
         return tried
+
+    def reorder(self, order: Sequence[Union[int, str]]) -> None:
+        """Puts the inputs in an order, the top place's first, by exchanges of neighbours; where it is the present one, nothing changes."""
+        wanted = [self._number(variable) for variable in order]
+        if sorted(wanted) != list(range(len(self.inputs))):
+            raise ValueError("the order has each input once")
+        for place, variable in enumerate(wanted):
+            for upper in reversed(range(place, self.order.index(variable))):
+                self.swap(upper)
 
     def swap(self, place: int) -> None:
         """Exchanges a place and the next in the order; the table is held then, and no network."""
@@ -154,5 +174,5 @@ class Network:
         if not isinstance(variable, str):
             return variable
         if variable not in self.inputs:
-            raise ValueError(f"there is no input named {variable}")
+            raise ValueError(f"there is no input {variable}; there are {' '.join(self.inputs) or 'none'}")
         return self.inputs.index(variable)
