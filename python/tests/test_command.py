@@ -1,39 +1,18 @@
 """Tests of the command: formats there and back, pictures and exports, and what a person is told of bad input."""
 
 import itertools
-import pathlib
-import subprocess
-import sys
-import tempfile
+import shlex
 import unittest
 import xml.etree.ElementTree
 
-ROOT = pathlib.Path(__file__).resolve().parent.parent.parent
-sys.path.insert(0, str(ROOT / "python"))
-
-EXAMPLES = ROOT / "examples"
-GUARD = "examples/bounce-guard.txt"
-CROSSED = "examples/and-or-crossed.txt"
+from running import CROSSED, EXAMPLES, GUARD, ROOT, WithFolder, yav
 
 
-def yav(*words):
-    return subprocess.run([str(ROOT / "yav"), *map(str, words)], cwd=ROOT, capture_output=True, text=True)
+class Processes(WithFolder):
+    run_by = staticmethod(yav)
 
 
-class WithFolder(unittest.TestCase):
-    def setUp(self):
-        folder = tempfile.TemporaryDirectory()
-        self.addCleanup(folder.cleanup)
-        self.folder = pathlib.Path(folder.name)
-
-    def written(self, *words):
-        """What a command writes to standard output."""
-        run = yav(*words)
-        self.assertEqual((run.returncode, run.stderr), (0, ""))
-        return run.stdout
-
-
-class Converting(WithFolder):
+class Converting(Processes):
     def test_there_and_back_through_every_format(self):
         for drawing in sorted(EXAMPLES.glob("*.txt")):
             path = drawing
@@ -62,7 +41,7 @@ class Converting(WithFolder):
         self.assertEqual((self.folder / "again").read_bytes(), (EXAMPLES / "xor.table").read_bytes())
 
 
-class Showing(WithFolder):
+class Showing(Processes):
     def test_pictures(self):
         self.assertTrue(xml.etree.ElementTree.fromstring(self.written("show", GUARD, "--svg")).tag.endswith("svg"))
         self.assertTrue(self.written("show", GUARD, "--dot").startswith("digraph"))
@@ -101,30 +80,20 @@ class Showing(WithFolder):
         self.assertEqual(len(self.written("evaluate", "examples/xor.txt").splitlines()), 5)
 
 
-class Readme(WithFolder):
+class Readme(Processes):
     def test_it_shows_what_is_written(self):
         lines = (ROOT / "README.md").read_text().splitlines()
         starts = [at for at, line in enumerate(lines) if line.startswith("    $ ./yav ")]
-        self.assertEqual(len(starts), 3)
+        self.assertEqual(len(starts), 14)
         for at in starts:
             shown = itertools.takewhile(lambda line: line.startswith("    ") and not line.startswith("    $"), lines[at + 1 :])
-            written = self.written(*lines[at].split()[2:])
-            self.assertEqual([line[4:] for line in shown], written.splitlines())
+            run = yav(*shlex.split(lines[at])[2:])
+            self.assertEqual([line[4:] for line in shown], (run.stdout + run.stderr).splitlines())
 
 
-class Telling(WithFolder):
-    def refused(self, wanted, *words):
-        """A message on one line, status 1, and no file written."""
-        run = yav(*words)
-        self.assertEqual((run.returncode, run.stdout), (1, ""))
-        self.assertEqual(run.stderr.count("\n"), 1, run.stderr)
-        self.assertIn(wanted, run.stderr)
-        self.assertEqual(sorted(path.name for path in self.folder.iterdir()), ["bad"])
-
+class Telling(Processes):
     def bad(self, content):
-        path = self.folder / "bad"
-        path.write_bytes(content)
-        return path
+        return self.file("bad", content)
 
     def test_bad_drawings_and_plas(self):
         out = self.folder / "out.table"
@@ -139,7 +108,8 @@ class Telling(WithFolder):
         self.refused("refused 1: ", "convert", bad, self.folder / "out.pla", "--from", "table")
         self.refused("refused 3: ", "export", self.bad((EXAMPLES / "xor.table").read_bytes()), "--blif", "--from", "cells")
         self.refused("it is no text", "show", self.bad(b"\xff\xfe"), "--from", "drawing")
-        self.refused("its ending tells no format", "show", self.bad(b""))
+        self.refused(f"{bad}: its ending tells no format", "show", self.bad(b""))
+        self.refused("out.xyz: its ending tells no format: known are .txt, ", "convert", GUARD, self.folder / "out.xyz")
         self.refused("No such file", "show", self.folder / "none.txt")
         self.refused("12 is no row", "evaluate", "examples/xor.txt", "12")
 

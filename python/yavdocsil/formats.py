@@ -3,6 +3,7 @@
 from __future__ import annotations
 
 import pathlib
+from collections.abc import Mapping
 from typing import Optional
 
 from .errors import Error
@@ -18,14 +19,14 @@ class UnknownFormat(Error):
     """A file's ending tells no format, and none was named."""
 
 
-def format_of(path: pathlib.Path, named: Optional[str] = None) -> str:
+def format_of(path: pathlib.Path, named: Optional[str] = None, endings: Mapping[str, str] = ENDINGS) -> str:
     """The format that is named, or else the one that a file's ending tells."""
     if named is not None:
         return named
-    if path.suffix not in ENDINGS:
-        known, named_ones = ", ".join(ENDINGS), ", ".join(FORMATS)
+    if path.suffix not in endings:
+        known, named_ones = ", ".join(endings), ", ".join(dict.fromkeys(endings.values()))
         raise UnknownFormat(f"its ending tells no format: known are {known}; or name one of {named_ones}")
-    return ENDINGS[path.suffix]
+    return endings[path.suffix]
 
 
 def read(path: pathlib.Path, named: Optional[str] = None) -> Network:

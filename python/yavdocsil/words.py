@@ -1,4 +1,4 @@
-"""Words of a text with their places, for the formats that are text: names, the order of the places, and rows as errors speak of them."""
+"""Words of a text with their places, for the formats that are text: names, the order of the places, rows and numbers as a person speaks of them."""
 
 from __future__ import annotations
 
@@ -88,3 +88,8 @@ def row_digits(row: int, n: int) -> str:
 def row_named(row: int, n: int) -> str:
     """A row, as an error speaks of it."""
     return f"row {row_digits(row, n)}" if n else "the only row"
+
+
+def many(count: int, thing: str) -> str:
+    """So many of a thing."""
+    return f"{count} {thing}" if count == 1 else f"{count} {thing}s"

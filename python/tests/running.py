@@ -1,0 +1,83 @@
+"""The command, run as a person calls it: what it writes, and what it refuses."""
+
+import contextlib
+import io
+import os
+import pathlib
+import subprocess
+import sys
+import tempfile
+import unittest
+import unittest.mock
+
+ROOT = pathlib.Path(__file__).resolve().parent.parent.parent
+sys.path.insert(0, str(ROOT / "python"))
+
+from yavdocsil.command import main
+
+EXAMPLES = ROOT / "examples"
+GUARD = "examples/bounce-guard.txt"
+PAIRS = "examples/and-or.txt"
+CROSSED = "examples/and-or-crossed.txt"
+
+
+def yav(*words, given=""):
+    """The command in the checkout, with what is given on standard input."""
+    return subprocess.run([str(ROOT / "yav"), *map(str, words)], cwd=ROOT, capture_output=True, text=True, input=given)
+
+
+def called(*words, given=""):
+    """The same without a process of its own, for tests that call it often."""
+    stdin, stdout, stderr = (io.TextIOWrapper(io.BytesIO(data), "utf-8") for data in (given.encode("utf-8"), b"", b""))
+    before = os.getcwd()
+    os.chdir(ROOT)
+    try:
+        with unittest.mock.patch("sys.stdin", stdin), contextlib.redirect_stdout(stdout), contextlib.redirect_stderr(stderr):
+            status = main([str(word) for word in words])
+    except SystemExit as ended:
+        status = ended.code
+    finally:
+        os.chdir(before)
+    texts = []
+    for stream in (stdout, stderr):
+        stream.flush()
+        texts.append(stream.buffer.getvalue().decode("utf-8"))
+    return subprocess.CompletedProcess(words, status, *texts)
+
+
+class WithFolder(unittest.TestCase):
+    """Tests with a folder of their own. `run_by` is `yav` where a process is to be seen."""
+
+    run_by = staticmethod(called)
+
+    def setUp(self):
+        folder = tempfile.TemporaryDirectory()
+        self.addCleanup(folder.cleanup)
+        self.folder = pathlib.Path(folder.name)
+
+    def file(self, name, content):
+        path = self.folder / name
+        path.write_bytes(content.encode("utf-8") if isinstance(content, str) else content)
+        return path
+
+    def written(self, *words, given=""):
+        """What a command writes to standard output."""
+        run = self.run_by(*words, given=given)
+        self.assertEqual((run.returncode, run.stderr), (0, ""))
+        return run.stdout
+
+    def refused(self, wanted, *words, given=""):
+        """A message on one line, status 1, and no file written."""
+        before = sorted(self.folder.iterdir())
+        run = self.run_by(*words, given=given)
+        self.assertEqual((run.returncode, run.stdout), (1, ""), run.stderr)
+        self.assertEqual(run.stderr.count("\n"), 1, run.stderr)
+        self.assertIn(wanted, run.stderr)
+        self.assertEqual(sorted(self.folder.iterdir()), before)
+
+    def misused(self, wanted, *words):
+        """The usage and what is wrong, status 2."""
+        run = self.run_by(*words)
+        self.assertEqual((run.returncode, run.stdout), (2, ""), run.stderr)
+        self.assertTrue(run.stderr.startswith("usage: "))
+        self.assertIn(wanted, run.stderr.splitlines()[-1])

@@ -1,0 +1,138 @@
+"""The options that words of the command share, and what they ask of a network."""
+
+from __future__ import annotations
+
+import argparse
+import pathlib
+import sys
+from collections.abc import Callable, Iterable, Sequence
+from typing import Optional
+
+from .. import formats, rows
+from ..library import MOST_BOARD
+from ..network import NO_LIMIT, Network
+from .files import STANDARD_INPUT, BadWord, about, read_text
+
+# A pass of fewer inputs is over before a line could be read.
+LONG_PASS = 8
+
+
+# The options.
+
+
+def with_file(parser: argparse.ArgumentParser) -> None:
+    parser.add_argument("file", metavar="FILE", type=pathlib.Path, help="a drawing, a PLA, a table file or a network file")
+    parser.add_argument("--from", dest="read_as", choices=formats.FORMATS, help="the file's format, if its ending doesn't tell")
+
+
+def with_order(parser: argparse.ArgumentParser) -> None:
+    """The options that change the order, in the sequence in which they do so."""
+    parser.add_argument("--order", metavar="NAMES", help="the order to take: every input once, the top place's first, with commas between")
+    parser.add_argument(
+        "--sift-input", dest="inputs", metavar="NAME", action="append", default=[],
+        help="sift one input, after --order; several are sifted in the sequence given",
+    )
+    sifted = parser.add_mutually_exclusive_group()
+    sifted.add_argument("--sift", dest="limit", action="store_const", const=NO_LIMIT, help="sift each input once, after --sift-input")
+    sifted.add_argument("--pass", dest="limit", metavar="LIMIT", type=number_to(NO_LIMIT), help="the same, under a limit of orders tried")
+
+
+def with_board(parser: argparse.ArgumentParser) -> None:
+    parser.add_argument(
+        "--board", metavar="N", type=number_to(MOST_BOARD),
+        help="build the network on a board of N cells; one that takes more is refused, with 23",
+    )
+
+
+def with_rows(parser: argparse.ArgumentParser, without: str) -> None:
+    parser.add_argument("rows", metavar="ROW", nargs="*", help=f"a row's bits, input 0 first; {without}")
+    parser.add_argument(
+        "--rows", dest="files", metavar="FILE", type=pathlib.Path, action="append", default=[],
+        help="a file with a row a line, `-` for standard input; several are taken one after the other",
+    )
+
+
+def with_out(parser: argparse.ArgumentParser, otherwise: str, kinds: Iterable[str] = ()) -> None:
+    """The file to write, and where its ending tells a format, the option that names one."""
+    parser.add_argument("-o", dest="out", metavar="OUT", type=pathlib.Path, help=f"the file to write; {otherwise}")
+    if kinds:
+        parser.add_argument("--to", dest="write_as", choices=tuple(kinds), help="the format to write, if its ending doesn't tell")
+
+
+def number_to(most: int) -> Callable[[str], int]:
+    """Reads a number from 0 to the most there may be."""
+
+    def number(word: str) -> int:
+        if not (word.isascii() and word.isdigit() and len(word) <= len(str(most)) and int(word) <= most):
+            raise argparse.ArgumentTypeError(f"{word!r} is no number from 0 to {most}")
+        return int(word)
+
+    return number
+
+
+# What they ask.
+
+
+def prepared(given: argparse.Namespace) -> Network:
+    """The file's network in the order asked for, and on the board."""
+    return on_board(sifted(ordered(given), given), given)
+
+
+def ordered(given: argparse.Namespace) -> Network:
+    """The file's network, in the order given."""
+    network = formats.read(given.file, given.read_as)
+    if given.order is not None:
+        network.reorder(order_of(given.order, network.inputs))
+    return network
+
+
+def order_of(text: str, inputs: Sequence[str]) -> list[str]:
+    """The inputs that an order names. Commas are between them, or blanks, since a name may have a comma in it."""
+    names = text.split()
+    if not set(names) <= set(inputs):
+        names = text.replace(",", " ").split()
+    wrong = [f"there is no input {name}" for name in dict.fromkeys(names) if name not in inputs]
+    wrong += [f"{name} stands more than once" for name in inputs if names.count(name) > 1]
+    missing = [name for name in inputs if name not in names]
+    if missing:
+        wrong.append(f"{' '.join(missing)} missing")
+    if wrong:
+        raise BadWord(f"--order {text}: {', '.join(wrong)}")
+    return names
+
+
+def sifted(network: Network, given: argparse.Namespace) -> Network:
+    """The network sifted as far as asked: the inputs that are named, then a pass."""
+    for name in given.inputs:
+        network.sift(name)
+    if given.limit is not None:
+        told = progress_of(len(network.inputs)) if sys.stderr.isatty() else None
+        network.sift_all(given.limit, told)
+        if told is not None:
+            print(file=sys.stderr)
+    return network
+
+
+def progress_of(n: int) -> Optional[Callable[[int, int], None]]:
+    """Tells, on one line of a terminal, how far a long pass is."""
+    if n < LONG_PASS:
+        return None
+
+    def told(turn: int, cells: int) -> None:
+        print(f"\rsifted {turn} of {n} inputs, {cells} cells ", end="", file=sys.stderr, flush=True)
+
+    return told
+
+
+def on_board(network: Network, given: argparse.Namespace) -> Network:
+    """The network on the board; without one, as it is."""
+    return network if given.board is None else network.on_board(given.board)
+
+
+def rows_given(given: argparse.Namespace, inputs: Sequence[str]) -> list[list[int]]:
+    """A list of rows for the command line, if some stand there, and one for each file."""
+    lists = [[rows.row_of(word, inputs) for word in given.rows]] if given.rows else []
+    for path in given.files:
+        with about("standard input" if path == STANDARD_INPUT else path):
+            lists.append(rows.read(read_text(path), inputs))
+    return lists
