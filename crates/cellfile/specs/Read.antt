@@ -8,7 +8,7 @@ use lib.Dec.{eqb, leb}
 use lib.ListN.{length}
 use Rattle.diagram.specs.Diagram.{Diagram, wellFormed}
 use Rattle.diagram.specs.Table.{Table, Solves, Fits}
-use Rattle.diagram.specs.Demands.{Kept, Least}
+use Rattle.diagram.specs.Demands.{AsDrawn, Least}
 use Rattle.diagram.specs.Canonical.{computedTable, canonical}
 use Rattle.table.specs.declared.Answer.{Answer}
 use Rattle.table.specs.declared.Answer.the-variants.{Done, ShortBuffer, TooSmall, BadCells, NotCanonical}
@@ -87,8 +87,8 @@ readCells file values care work roots cells =
 pub record Given (s : State) (values care : List ℕ) (D : Diagram) (board : ℕ) : Type 0 where
   -- well-formed, one root an output, and it computes the filled table
   pub solves : Solves true (heldTable s values care) (orderOf s) D
-  -- cared rows as drawn
-  pub kept : Kept true (heldTable s values care) (orderOf s)
+  -- it gives every cared row as drawn
+  pub drawn : AsDrawn true (heldTable s values care) (orderOf s) D
   -- its cells are the state's count, and the board has them all
   pub counted : length (D .nodes) ≡ s .count
   pub fits : Fits D board

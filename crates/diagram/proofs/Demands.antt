@@ -1,4 +1,4 @@
--- Demands 2 and 3 of document 01 for every drawn table and order: kept, whole, right, least, fits.
+-- Demands 2 and 3 of document 01 for every drawn table and order: kept, whole, right, as drawn, least, fits.
 -- Assumes nothing.
 use mathlib.Core.Path.{_≡_, sym, ap, _∙_, subst}
 use mathlib.Core.Bool.{Bool, true, false, _&&_}
@@ -17,7 +17,7 @@ use Rattle.diagram.specs.Diagram.{Diagram, refers, wellFormed}
 use Rattle.diagram.specs.Network.{network, count}
 use Rattle.diagram.specs.Order.{isOrder, rowUnder}
 use Rattle.diagram.specs.Table.{Table, reordered, filled, filledBit, networkOf, cost, Computes, Solves}
-use Rattle.diagram.specs.Demands.{Kept, Least, NoneFits}
+use Rattle.diagram.specs.Demands.{AsDrawn, Least, NoneFits}
 use Rattle.diagram.proofs.Bools.{split}
 use Rattle.diagram.proofs.Lists.{all-at}
 use Rattle.diagram.proofs.Tree.{tree-ext, at-above, inverted-false}
@@ -38,8 +38,9 @@ module _ (inv : Bool) (t : Table) (order : List ℕ) where
       fill-length inv (t .n) (map (reordered t order) (upTo (t .m))) ∙ length-map-upTo (reordered t order) (t .m)
 
   -- kept: the filled table has every cared row as drawn
-  pub kept : T (isOrder (t .n) order) → Kept inv t order
-  unfolding Kept filledBit filled
+  pub kept : T (isOrder (t .n) order)
+      → (j r : ℕ) → j < t .m → r < 2 ^ t .n → T (t .row j r .care) → filledBit inv t order j r ≡ t .row j r .value
+  unfolding filledBit filled
   kept o j r hj hr c =
       let f₀ = full {A = Row} (record { value = false; care = false }) (t .n) in
       let fs = map (reordered t order) (upTo (t .m)) in
@@ -54,7 +55,6 @@ module _ (inv : Bool) (t : Table) (order : List ℕ) where
   -- whole: 'A fully cared table fills to itself'
   pub whole : T (isOrder (t .n) order) → ((j r : ℕ) → j < t .m → r < 2 ^ t .n → T (t .row j r .care))
       → (j r : ℕ) → j < t .m → r < 2 ^ t .n → filledBit inv t order j r ≡ t .row j r .value
-  unfolding Kept
   whole o cared j r hj hr = kept o j r hj hr (cared j r hj hr)
 
   -- right: the network is a diagram as section 4 words it, and computes the filled table
@@ -71,6 +71,11 @@ module _ (inv : Bool) (t : Table) (order : List ℕ) where
       }
 
   module _ (D : Diagram) (s : Solves inv t order D) where
+    -- as drawn: so every diagram that computes the filled table gives every cared row as drawn
+    pub as-drawn : T (isOrder (t .n) order) → AsDrawn inv t order D
+    unfolding AsDrawn Computes
+    as-drawn o j r hj hr c = s .computes j r hj hr ∙ kept o j r hj hr c
+
     pub solves-length : length (D .roots) ≡ t .m
     solves-length = eqb→eq (length (D .roots)) (t .m) (formed-length inv (t .n) (t .m) D (s .formed))
 

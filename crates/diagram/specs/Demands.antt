@@ -5,17 +5,18 @@ use mathlib.Core.Bool.{Bool, true}
 use mathlib.Core.List.{List}
 use Prim.Native.Nat.{ℕ, suc, _*_, _≤_, _<_, _^_}
 use lib.Dec.{T, eqb}
-use lib.ListN.{length}
+use lib.ListN.{length, getD}
 use Rattle.diagram.specs.Lists.{without}
-use Rattle.diagram.specs.Diagram.{Diagram}
-use Rattle.diagram.specs.Order.{isOrder}
-use Rattle.diagram.specs.Table.{Table, Solves, Fits, filledBit, cost}
+use Rattle.diagram.specs.Diagram.{Diagram, gives}
+use Rattle.diagram.specs.Order.{isOrder, rowUnder}
+use Rattle.diagram.specs.Table.{Table, Solves, Fits, cost}
 use Rattle.diagram.specs.Sift.{next, pass}
 
--- demand 2: cared rows as drawn
-unfoldable pub Kept : Bool → Table → List ℕ → Type 0
-Kept inv t order =
-    (j r : ℕ) → j < t .m → r < 2 ^ t .n → T (t .row j r .care) → filledBit inv t order j r ≡ t .row j r .value
+-- demand 2: the diagram, under the order, gives every cared row as drawn
+unfoldable pub AsDrawn : Bool → Table → List ℕ → Diagram → Type 0
+AsDrawn inv t order D =
+    (j r : ℕ) → j < t .m → r < 2 ^ t .n → T (t .row j r .care)
+    → gives inv D (rowUnder (t .n) order r) (t .n) (getD (D .roots) j 0) ≡ t .row j r .value
 
 -- demand 3, least: every diagram that uses the order and computes the table filled under it has at least c nodes
 unfoldable pub Least : Bool → Table → List ℕ → ℕ → Type 0

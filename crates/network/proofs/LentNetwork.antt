@@ -16,7 +16,7 @@ use Rattle.diagram.specs.Bound.{mostOutputs}
 use Rattle.diagram.specs.Table.{Table, networkOf, cost}
 use Rattle.diagram.specs.Demands.{Least, NoneFits}
 use Rattle.diagram.proofs.Evaluate.{formed-length}
-use Rattle.diagram.proofs.Demands.{kept, right, least-cost, fits}
+use Rattle.diagram.proofs.Demands.{right, as-drawn, least-cost, fits}
 use Rattle.diagram.proofs.UpTo.{length-map-upTo, getD-map-upTo}
 use Rattle.table.specs.declared.State.{State}
 use Rattle.table.specs.declared.Outcome.{Outcome}
@@ -110,7 +110,7 @@ module _ (s : State) (values care : List ℕ) (held : T (not (isNothing (stageOf
         let o = ordered s held in
         record {
           solves = right true t (orderOf s);
-          kept = kept true t (orderOf s) o;
+          drawn = as-drawn true t (orderOf s) (heldNetwork s values care) (right true t (orderOf s)) o;
           counted = sym (wanted-nodes s values care) ∙ sym ec;
           answered = sym (wanted-nodes s values care) ∙ sym ea;
           fits = omega (arith, wanted-nodes s values care);

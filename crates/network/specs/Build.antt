@@ -8,7 +8,7 @@ use lib.Dec.{eqb, leb}
 use lib.ListN.{length, getD, drop}
 use Rattle.diagram.specs.Diagram.{Diagram}
 use Rattle.diagram.specs.Table.{networkOf, cost, Solves, Fits}
-use Rattle.diagram.specs.Demands.{Kept, Least}
+use Rattle.diagram.specs.Demands.{AsDrawn, Least}
 use Rattle.table.specs.declared.Answer.{Answer}
 use Rattle.table.specs.declared.Answer.the-variants.{Done, ShortBuffer, NoTable, TooSmall}
 use Rattle.table.specs.declared.Outcome.{Outcome}
@@ -81,8 +81,8 @@ buildWork s values care work roots cells = cond (clears (buildAnswer s values ca
 pub record Built (s : State) (values care : List ℕ) (r : Outcome) (D : Diagram) (board : ℕ) : Type 0 where
   -- well-formed, one root an output, and it computes the filled table
   pub solves : Solves true (heldTable s values care) (orderOf s) D
-  -- cared rows as drawn
-  pub kept : Kept true (heldTable s values care) (orderOf s)
+  -- it gives every cared row as drawn
+  pub drawn : AsDrawn true (heldTable s values care) (orderOf s) D
   -- its cells are the state's count, 'which build also answers', and the board has them all
   pub counted : length (D .nodes) ≡ r .state .count
   pub answered : length (D .nodes) ≡ value (r .answer)

@@ -14,7 +14,7 @@ use Rattle.diagram.specs.Demands.{Least}
 use Rattle.diagram.specs.Canonical.{computedTable, canonical}
 use Rattle.diagram.proofs.Bools.{of-T, to-T}
 use Rattle.diagram.proofs.Canonical.{Drawn, solves-of, least-of}
-use Rattle.diagram.proofs.Demands.{kept}
+use Rattle.diagram.proofs.Demands.{as-drawn}
 use Rattle.table.specs.State.{orderOf}
 use Rattle.table.specs.File.{fileInputs, fileOutputs, fileOrder}
 use Rattle.table.specs.Stream.{planeByte}
@@ -86,9 +86,10 @@ module _ (file : List ℕ) (a : AcceptedShape file) (p : Passed file) where
         subst (λ (l : List ℕ). Drawn true n m l (fileDiagram file) t) (sym (order-of file a)) drawn-file in
         let k : T (canonical true n m (orderOf (readState file)) (fileDiagram file)) =
         subst (λ (l : List ℕ). T (canonical true n m l (fileDiagram file))) (sym (order-of file a)) (p .network) in
+        let s = solves-of true n m (orderOf (readState file)) (fileDiagram file) o (p .formed) t d in
         record {
-          solves = solves-of true n m (orderOf (readState file)) (fileDiagram file) o (p .formed) t d;
-          kept = kept true t (orderOf (readState file)) o;
+          solves = s;
+          drawn = as-drawn true t (orderOf (readState file)) (fileDiagram file) s o;
           counted = counted-nodes file;
           fits = omega (arith, counted-nodes file);
           least =
