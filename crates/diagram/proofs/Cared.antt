@@ -4,7 +4,7 @@
 use mathlib.Core.Path.{_≡_, refl, sym, ap, ap₂, _∙_, subst}
 use mathlib.Core.Bool.{Bool, false, _&&_}
 use mathlib.Core.List.{List, [], _∷_, map}
-use Prim.Native.Nat.{ℕ, zero, suc, _+_, _*_, _<_, _^_}
+use Prim.Native.Nat.{ℕ, zero, suc, _+_, _*_}
 use lib.Dec.{T}
 use Rattle.diagram.specs.Lists.{all, upTo}
 use Rattle.diagram.specs.Tree.{Tree, leaf, node, draw, halves, pairs}
@@ -12,7 +12,7 @@ use Rattle.diagram.specs.Fill.{Row, agree, merge, Link, candidate, level
 use Rattle.diagram.specs.Halves.{cared, fillHalves, traceHalves}
 use Rattle.diagram.specs.Network.{network}
 use Rattle.diagram.specs.Order.{behind}
-use Rattle.diagram.specs.Table.{Table, reordered, filled, networkOf}
+use Rattle.diagram.specs.Table.{Table, FullyCared, reordered, filled, networkOf}
 use Rattle.diagram.proofs.Bools.{split, of-T, to-T, and-T, and-l, and-r, or-r}
 use Rattle.diagram.proofs.Lists.{all-mapped}
 use Rattle.diagram.proofs.Numbers.{all-upTo-of}
@@ -116,7 +116,7 @@ cared-draw zero f s c = c s
 cared-draw (suc d) f s c =
     and-T (cared (draw d f (2 * s))) (cared (draw d f (2 * s + 1))) (cared-draw d f (2 * s) c) (cared-draw d f (2 * s + 1) c)
 
-pub cared-network : (inv : Bool) (t : Table) (order : List ℕ) → ((j r : ℕ) → j < t .m → r < 2 ^ t .n → T (t .row j r .care))
+pub cared-network : (inv : Bool) (t : Table) (order : List ℕ) → FullyCared t
     → networkOf inv t order ≡ network inv (t .n) (fillHalves inv (t .n) (map (reordered t order) (upTo (t .m))))
 unfolding networkOf filled
 cared-network inv t order c =

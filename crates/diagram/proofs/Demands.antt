@@ -16,7 +16,7 @@ use Rattle.diagram.specs.Fill.{Row}
 use Rattle.diagram.specs.Diagram.{Diagram, refers, wellFormed}
 use Rattle.diagram.specs.Network.{network, count}
 use Rattle.diagram.specs.Order.{isOrder, rowUnder}
-use Rattle.diagram.specs.Table.{Table, reordered, filled, filledBit, networkOf, cost, Computes, Solves}
+use Rattle.diagram.specs.Table.{Table, FullyCared, reordered, filled, filledBit, networkOf, cost, Computes, Solves}
 use Rattle.diagram.specs.Demands.{AsDrawn, Least, NoneFits}
 use Rattle.diagram.proofs.Bools.{split}
 use Rattle.diagram.proofs.Lists.{all-at}
@@ -53,7 +53,7 @@ module _ (inv : Bool) (t : Table) (order : List ℕ) where
       ∙ ap (λ (x : Row). x .value) there
 
   -- whole: 'A fully cared table fills to itself'
-  pub whole : T (isOrder (t .n) order) → ((j r : ℕ) → j < t .m → r < 2 ^ t .n → T (t .row j r .care))
+  pub whole : T (isOrder (t .n) order) → FullyCared t
       → (j r : ℕ) → j < t .m → r < 2 ^ t .n → filledBit inv t order j r ≡ t .row j r .value
   whole o cared j r hj hr = kept o j r hj hr (cared j r hj hr)
 

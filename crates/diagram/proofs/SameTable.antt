@@ -12,7 +12,7 @@ use Rattle.diagram.specs.Fill.{Row, fill}
 use Rattle.diagram.specs.Diagram.{Diagram, wellFormed, gives}
 use Rattle.diagram.specs.Network.{network}
 use Rattle.diagram.specs.Order.{isOrder, rowUnder, behind}
-use Rattle.diagram.specs.Table.{Table, reordered, filled, networkOf, Computes}
+use Rattle.diagram.specs.Table.{Table, FullyCared, reordered, filled, networkOf, Computes}
 use Rattle.diagram.specs.Canonical.{computedTable, canonical}
 use Rattle.diagram.proofs.Bools.{of-T}
 use Rattle.diagram.proofs.UpTo.{map-upTo-cong}
@@ -46,7 +46,7 @@ same-table inv t u order en em e =
 
 -- of fully cared ones with the same values
 pub cared-same : (inv : Bool) (t u : Table) (order : List ℕ) → t .n ≡ u .n → t .m ≡ u .m
-    → ((j r : ℕ) → j < t .m → r < 2 ^ t .n → T (t .row j r .care)) → ((j r : ℕ) → j < t .m → r < 2 ^ t .n → T (u .row j r .care))
+    → FullyCared t → ((j r : ℕ) → j < t .m → r < 2 ^ t .n → T (u .row j r .care))
     → ((j r : ℕ) → j < t .m → r < 2 ^ t .n → t .row j r .value ≡ u .row j r .value) → networkOf inv t order ≡ networkOf inv u order
 cared-same inv t u order en em c e v =
     same-table inv t u order en em
@@ -54,8 +54,7 @@ cared-same inv t u order en em c e v =
     let b : t .row j r .care ≡ u .row j r .care = of-T (c j r h k) ∙ sym (of-T (e j r h k)) in
     λ i. record { value = a i; care = b i })
 
-module _ (inv : Bool) (t : Table) (order : List ℕ) (o : T (isOrder (t .n) order))
-    (cared : (j r : ℕ) → j < t .m → r < 2 ^ t .n → T (t .row j r .care)) where
+module _ (inv : Bool) (t : Table) (order : List ℕ) (o : T (isOrder (t .n) order)) (cared : FullyCared t) where
   -- the network of a fully cared table gives its values
   pub network-values : (j r : ℕ) → j < t .m → r < 2 ^ t .n
       → gives inv (networkOf inv t order) (rowUnder (t .n) order r) (t .n) (getD (networkOf inv t order .roots) j 0) ≡ t .row j r .value

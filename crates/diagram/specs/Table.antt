@@ -19,6 +19,10 @@ pub record Table : Type 0 where
   pub m : ℕ
   pub row : ℕ → ℕ → Row
 
+-- 'fully cared': no row is free
+abbrev pub FullyCared : Table → Type 0
+FullyCared t = (j r : ℕ) → j < t .m → r < 2 ^ t .n → T (t .row j r .care)
+
 -- 'Reorder the table so that the top place is the most significant row bit'
 abbrev pub reordered : (t : Table) → List ℕ → ℕ → Tree Row (t .n)
 reordered t order j = draw (t .n) (λ s. t .row j (behind (t .n) order s)) 0
