@@ -26,8 +26,9 @@ use Rattle.fill.specs.Calls.{heldTable}
 use Rattle.lent.specs.Lent.{lentDiagram, numbersOf, rootsSize}
 use Rattle.lent.specs.Evaluate.{goodCells, rowOutputs, evaluateAnswer}
 use Rattle.lent.proofs.Sizes.{roots-size}
-use Rattle.network.specs.Build.{heldNetwork, wanted, networkState}
-use Rattle.network.proofs.LentNetwork.{cells-enough, lent-held}
+use Rattle.network.specs.Build.{heldNetwork, wanted, capacity, networkState}
+use Rattle.network.proofs.HeldRead.{wanted-nodes}
+use Rattle.network.proofs.LentNetwork.{stored-length, cells-enough, lent-held}
 
 -- the state that a build leaves holds a network
 pub network-stage : (s : State) (count : ℕ) → T (not (isNothing (stageOf s))) → isNetwork (stageOf (networkState s count)) ≡ true
@@ -57,6 +58,10 @@ module _ (s : State) (values care roots cells : List ℕ) (held : T (not (isNoth
   unfolding goodCells
   good-built =
       rw (le-leb (wanted s values care) (length (builtCells s values care cells) / 3) (cells-enough s values care cells), formed)
+
+  -- the cells are as many as were lent
+  pub cells-built : wanted s values care ≤ capacity cells → length (builtCells s values care cells) ≡ length cells
+  cells-built = stored-length (heldNetwork s values care .nodes) (wanted s values care) cells (wanted-nodes s values care)
 
   -- the roots are as many as were lent
   pub roots-built : rootsSize ≤ length roots → rootsSize ≤ length (builtRoots s values care roots)

@@ -8,7 +8,7 @@ use Prim.Native.Nat.{ℕ, zero, suc, _+_, _*_, _/_, _≤_, _<_}
 use native.Mathlib.Nat.{not-suc-le-zero, le-of-suc-le-suc}
 use native.Mathlib.Omega.{arith}
 use lib.Dec.{T, eqb→eq}
-use lib.ListN.{length, getD, take, drop, length-append}
+use lib.ListN.{length, getD, take, drop, length-append, length-drop}
 use lib.Seq.{ext-getD, length-take-le, getD-take}
 use Rattle.diagram.specs.Lists.{upTo}
 use Rattle.diagram.specs.Diagram.{Node, Diagram}
@@ -64,6 +64,12 @@ taken l k rest h =
     ext-getD 0 (take (length l) (over f k rest)) l e
     (λ i a. let b : i < length l = omega (arith, e) in
     getD-take (length l) (over f k rest) i 0 b ∙ getD-over f k rest i 0 (omega arith))
+
+-- nodes written over cells that have room for them leave as many cells
+pub stored-length : (ns : List Node) (k : ℕ) (cells : List ℕ) → k ≡ length ns → k ≤ capacity cells
+    → length (numbersOf ns ++ drop (3 * k) cells) ≡ length cells
+stored-length ns k cells e h =
+    omega (arith, length-append (numbersOf ns) (drop (3 * k) cells), numbers-length ns, length-drop (3 * k) cells)
 
 -- the cells that a build leaves have room for the network
 pub cells-enough : (s : State) (values care cells : List ℕ)

@@ -14,5 +14,6 @@ pub mod TraceRead
 pub mod TraceSized
 pub mod Words
 pub mod WorkLinks
+pub mod BuiltCanonical
 pub mod BuiltRows
 pub mod Swapping

@@ -6,13 +6,13 @@ use mathlib.Core.List.{List, _++_}
 use Prim.Native.Nat.{ℕ, _*_, _≤_, _<_}
 use native.Mathlib.Omega.{arith}
 use borrow.Author.Tests.{le-leb, lt-leb}
-use lib.Dec.{T, leb}
+use lib.Dec.{T, leb, leb→le}
 use lib.ListN.{length, getD, drop}
 use Rattle.diagram.specs.Table.{filled, cost}
 use Rattle.diagram.specs.Fill.{trace}
 use Rattle.diagram.specs.Network.{counts}
 use Rattle.diagram.specs.Bound.{mostOutputs}
-use Rattle.diagram.proofs.Bools.{split, to-T, absurd-T}
+use Rattle.diagram.proofs.Bools.{split, of-T, to-T, absurd-T, and-l, and-r}
 use Rattle.table.specs.declared.Answer.{Answer}
 use Rattle.table.specs.declared.Answer.the-variants.{Done}
 use Rattle.table.specs.declared.Answer.the-variants.{ShortBuffer, NoTable, TooSmall}
@@ -20,6 +20,7 @@ use Rattle.table.specs.declared.State.{State}
 use Rattle.table.specs.Answer.{unless, done, number, value}
 use Rattle.table.specs.State.{orderOf, stageOf, isNothing}
 use Rattle.table.specs.Calls.{planeSize, over}
+use Rattle.table.proofs.Accepted.{unless-done}
 use Rattle.fill.specs.Work.{workSize, traceWork, zeroWork}
 use Rattle.fill.specs.Calls.{heldTable, enough, countAnswer, levelsOf, linksWork, entryCounts, drawnOutputs, perLevel}
 use Rattle.lent.specs.Lent.{numbersOf, rootsSize}
@@ -123,6 +124,39 @@ module _ (s : State) (values care work roots cells : List ℕ) where
 
     pub room-enough : counted ≡ Done (wanted s values care) → wanted s values care ≤ capacity cells → answered ≡ Done (wanted s values care)
     room-enough e b = both e ∙ rw (le-leb (wanted s values care) (capacity cells) b)
+
+  -- what a success says
+  pub record Succeeded : Type 0 where
+    pub long-values : planeSize ≤ length values
+    pub long-care : planeSize ≤ length care
+    pub long-roots : rootsSize ≤ length roots
+    pub held : T isHeld
+    pub room : wanted s values care ≤ capacity cells
+    pub answer : answered ≡ Done (wanted s values care)
+
+  pub succeeded : done answered ≡ true → Succeeded
+  unfolding buildAnswer
+  succeeded d =
+      let v = leb planeSize (length values) in
+      let c = leb planeSize (length care) in
+      let w = leb workSize (length work) in
+      let r = leb rootsSize (length roots) in
+      let k = wanted s values care in
+      let l = unless-done (longEnough values care work roots) ShortBuffer _ refl (to-T d) in
+      let h = unless-done isHeld NoTable _ refl (l .1) in
+      let b = unless-done (leb k (capacity cells)) (TooSmall k) (Done k) refl (h .1) in
+      let q = and-r v (c && (w && r)) (l .0) in
+      let el : longEnough values care work roots ≡ true = of-T (l .0) in
+      let eh : isHeld ≡ true = of-T (h .0) in
+      let eb : leb k (capacity cells) ≡ true = of-T (b .0) in
+      record {
+        long-values = leb→le planeSize (length values) (and-l v (c && (w && r)) (l .0));
+        long-care = leb→le planeSize (length care) (and-l c (w && r) q);
+        long-roots = leb→le rootsSize (length roots) (and-r w r (and-r c (w && r) q));
+        held = h .0;
+        room = leb→le k (capacity cells) (b .0);
+        answer = rw (el, eh, eb);
+      }
 
   -- what a refusal leaves
 

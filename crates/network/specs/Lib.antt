@@ -1,3 +1,4 @@
+pub mod AsBuilt
 pub mod Build
 pub mod inner
 pub mod Swap

@@ -8,7 +8,7 @@ use native.Mathlib.Nat.{not-suc-le-zero, le-of-suc-le-suc, min-le-right}
 use native.Mathlib.Omega.{arith}
 use borrow.Author.Tests.{le-leb}
 use lib.Dec.{T, eqb→eq, ltb, leb, lt→ltb}
-use lib.ListN.{length, getD, take, drop, length-append, length-drop, length-take}
+use lib.ListN.{length, getD, take, drop, length-take}
 use Rattle.diagram.specs.Diagram.{Diagram, wellFormed}
 use Rattle.diagram.specs.Order.{isOrder}
 use Rattle.diagram.specs.Table.{networkOf}
@@ -36,8 +36,7 @@ use Rattle.lent.specs.Evaluate.{goodCells}
 use Rattle.network.specs.Swap.{heldDiagram, cellTable, exchangedOrder, swappedNetwork, swappedCount, swapChecks, swapCellsAnswer}
 use Rattle.network.specs.Swap.{swapCellsOutcome, swapCellsRoots, swapCellsCells}
 use Rattle.network.specs.Build.{capacity, networkState}
-use Rattle.network.proofs.LevelsRead.{numbers-length}
-use Rattle.network.proofs.LentNetwork.{lent-network}
+use Rattle.network.proofs.LentNetwork.{stored-length, lent-network}
 use Rattle.network.proofs.TraceRead.{cost-nodes}
 use Rattle.network.proofs.Swapping.Checks.{Passed, passed}
 use Rattle.network.proofs.Swapping.HeldLinks.{exchanges}
@@ -99,15 +98,7 @@ module _ (s : State) (p : ℕ) (work roots cells : List ℕ) (P : Passed s p wor
   valid = exchanges s p work roots cells P .valid
 
   same-length : length cells′ ≡ length cells
-  same-length =
-      omega (
-        arith,
-        length-append (numbersOf (E .nodes)) (drop (3 * count) cells),
-        numbers-length (E .nodes),
-        count-nodes s p work roots cells P,
-        length-drop (3 * count) cells,
-        room,
-      )
+  same-length = stored-length (E .nodes) count cells (count-nodes s p work roots cells P) room
 
   left : heldDiagram s′ roots′ cells′ ≡ E
   left = left-network s p work roots cells P (drop (3 * count) cells)
