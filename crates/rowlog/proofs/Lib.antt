@@ -3,3 +3,4 @@ pub mod Caring
 pub mod Answered
 pub mod LogThen
 pub mod Logs
+pub mod Sequences
