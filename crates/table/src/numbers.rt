@@ -2,6 +2,7 @@
 use crate::Answer;
 ghost use mathlib.Core.Path.{_≡_};
 ghost use Rattle.table.specs.Answer.{number, value, done};
+ghost use Rattle.table.specs.inner.Numbered.{Numbered};
 
 // Whether an answer is a success.
 pub fn is_done(answer: Answer) -> bool
@@ -16,6 +17,13 @@ pub fn is_done(answer: Answer) -> bool
 // The number of the paper's tables; 0 of a success.
 pub fn number_of(answer: Answer) -> usize
     ensures { λ r. ⌜ r ≡ number answer ⌝ }
+{
+    numbered(answer)
+}
+
+// The same, by a contract that tells the variant: from that the check finds each arm's proof, so a new refusal is a new arm and no more.
+fn numbered(answer: Answer) -> usize
+    ensures { λ r. ⌜ Numbered answer r ⌝ }
 {
     match answer {
         Answer::Done(_) => 0,
