@@ -10,7 +10,7 @@ ghost use Rattle.printed.specs.Input.{inputOutcome, inputValues, inputCa
 pub const LONGEST: usize = 65536;
 
 // Loads a program's input. Refuses with 1 if it is too long, then as load does.
-pub fn load_input(state: State, file: &[u8], values: &mut [u8], care: &mut [u8]) -> Outcome
+pub(crate) fn load_input(state: State, file: &[u8], values: &mut [u8], care: &mut [u8]) -> Outcome
     ensures outcome { λ r. ⌜ r ≡ inputOutcome state (now (file .entry)) (now (values .entry)) (now (care .entry)) ⌝ }
     ensures values { λ _. ⌜ now (values .exit) ≡ inputValues (now (file .entry)) (now (values .entry)) (now (care .entry)) ⌝ }
     ensures care { λ _. ⌜ now (care .exit) ≡ inputCare (now (file .entry)) (now (values .entry)) (now (care .entry)) ⌝ }

@@ -26,7 +26,7 @@ ghost use Rattle.printed.specs.inner.BuiltInput.{builtRoots, builtCells}
 ghost use Rattle.printed.specs.inner.Filed.{heldFile, outcomeFile, outcomeWork, filedText, filedWork};
 
 // The blocks of the network file of so many cells, its heading among them; past the most cells there can be, those of the longest file.
-pub fn file_blocks(count: usize) -> usize
+fn file_blocks(count: usize) -> usize
     ensures { λ r. ⌜ r ≡ suc (cellBlocks (min count mostNodes)) ⌝ }
 {
     if NODES < count {

@@ -26,9 +26,6 @@ ghost use Rattle.fill.specs.Calls.{heldTable, enough, countsSize, countsOf};
 ghost use Rattle.sift.specs.inner.Counts.{countsUnder, countsGain};
 ghost use Rattle.sift.specs.Moves.{movesAnswer, movesGains, movesWork, Reported};
 
-// The most entries that a report takes.
-pub const ENTRIES: usize = VARIABLES * VARIABLES;
-
 // The nodes under a move minus the nodes now.
 fn gain(moved: usize, present: usize) -> i32
     requires { ⌜ (moved ≤ mostNodes) × (present ≤ mostNodes) ⌝ }

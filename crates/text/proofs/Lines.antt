@@ -8,8 +8,6 @@ use lib.ListN.{length, getD}
 use Rattle.diagram.specs.Bound.{mostVariables}
 use Rattle.table.specs.declared.State.{State}
 use Rattle.table.specs.State.{stageOf, isNetwork}
-use Rattle.table.specs.declared.Answer.{Answer}
-use Rattle.table.specs.Answer.{number, value}
 use Rattle.text.specs.Text.{
   inputs-word,
   outputs-word,
@@ -18,12 +16,10 @@ use Rattle.text.specs.Text.{
   cells-word,
   cell-word,
   root-word,
-  row-word,
   newline,
   spaced,
   inTurn,
   line,
-  pairLine,
   orderLine,
   nodeText,
   cellLine,
@@ -34,9 +30,6 @@ use Rattle.text.specs.Text.{
   totalLines,
   headingLines,
   networkText,
-  answered,
-  answerLine,
-  rowLine,
 }
 use Rattle.text.specs.Written.{Written}
 use Rattle.text.proofs.Writing.{written-then, written-as, written-nothing}
@@ -49,27 +42,6 @@ pub written-line : {l m n o : List ℕ} {i j k q : ℕ} (w : List ℕ) (x : ℕ)
     → Written n o k q newline → Written l o i q (line w x)
 unfolding line
 written-line w x u v e = written-then u (written-then v e)
-
-pub written-pair : {l m n o z : List ℕ} {i j k q t : ℕ} (w : List ℕ) (x y : ℕ) → Written l m i j w → Written m n j k (spaced x)
-    → Written n o k q (spaced y) → Written o z q t newline → Written l z i t (pairLine w x y)
-unfolding pairLine
-written-pair w x y u v e f = written-then u (written-then v (written-then e f))
-
--- two parts, and three
-pub written-answer : {l m n o : List ℕ} {i j k q : ℕ} (a : Answer) (x y : ℕ) → x ≡ number a → y ≡ value a → Written l m i j (spaced x)
-    → Written m n j k (spaced y) → Written n o k q newline → Written l o i q (answered a)
-unfolding answered
-written-answer a x y p r u v e = written-then (spaced-as p u) (written-then (spaced-as r v) e)
-
-pub written-answer-line : {l m n : List ℕ} {i j k : ℕ} (w : List ℕ) (a : Answer) → Written l m i j w → Written m n j k (answered a)
-    → Written l n i k (answerLine w a)
-unfolding answerLine
-written-answer-line w a u v = written-then u v
-
-pub written-row : {l m n o : List ℕ} {i j k q : ℕ} (b : ℕ) (a : Answer) → Written l m i j row-word → Written m n j k (spaced b)
-    → Written n o k q (answered a) → Written l o i q (rowLine b a)
-unfolding rowLine
-written-row b a u v w = written-then u (written-then v w)
 
 pub written-node : {l m n o z : List ℕ} {i j k q t : ℕ} (cells : List ℕ) (p a b c : ℕ) → a ≡ getD cells (3 * p) 0
     → b ≡ getD cells (3 * p + 1) 0 → c ≡ getD cells (3 * p + 2) 0 → Written l m i j (spaced a) → Written m n j k (spaced b)

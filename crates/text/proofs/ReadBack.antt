@@ -4,23 +4,21 @@ use mathlib.Core.Path.{_≡_, refl, _∙_}
 use mathlib.Core.List.{List, [], _∷_, _++_}
 use Prim.Native.Nat.{ℕ, zero, suc, _+_, _*_, _-_, _/_, _%_, _^_, _<_}
 use native.Mathlib.Omega.{arith}
-use borrow.Author.Tests.{le-leb}
 use lib.Dec.{ltb, ltb→lt}
 use Rattle.diagram.proofs.Bools.{split}
 use Rattle.text.specs.Text.{digits, decimal}
-use Rattle.text.specs.Word.{digitOf, readOn}
 
-read-last : (v : ℕ) (xs : List ℕ) (b : ℕ) → readOn v (xs ++ (b ∷ [])) ≡ 10 * readOn v xs + digitOf b
+-- the digits read on, where the ones before stand for `value`
+abbrev pub readOn : ℕ → List ℕ → ℕ
+readOn value [] = value
+readOn value (b ∷ bs) = readOn (10 * value + (b - 48)) bs
+
+read-last : (v : ℕ) (xs : List ℕ) (b : ℕ) → readOn v (xs ++ (b ∷ [])) ≡ 10 * readOn v xs + (b - 48)
 read-last v [] b = refl
-read-last v (x ∷ xs) b = read-last (10 * v + digitOf x) xs b
-
-last-digit : (x : ℕ) → digitOf (48 + x % 10) ≡ x % 10
-unfolding digitOf
-last-digit x =
-    rw (le-leb 48 (48 + x % 10) (omega arith), le-leb (48 + x % 10) 57 (omega arith)) (omega arith)
+read-last v (x ∷ xs) b = read-last (10 * v + (x - 48)) xs b
 
 small : (x : ℕ) → x < 10 → readOn 0 ((48 + x % 10) ∷ []) ≡ x
-small x h = omega (arith, last-digit x)
+small x h = omega arith
 
 digits-back : (f x : ℕ) → x < 10 ^ suc f → readOn 0 (digits f x) ≡ x
 digits-back zero x h = small x (omega (arith, h))
@@ -29,7 +27,7 @@ digits-back (suc f) x h =
     (λ e. rw e
     (let k : x / 10 < 10 ^ suc f = omega (arith, h) in
     let r : readOn 0 (digits f (x / 10)) ≡ x / 10 = digits-back f (x / 10) k in
-    read-last 0 (digits f (x / 10)) (48 + x % 10) ∙ omega (arith, r, last-digit x)))
+    read-last 0 (digits f (x / 10)) (48 + x % 10) ∙ omega (arith, r)))
 
 pub decimal-back : (x : ℕ) → x < 10 ^ 20 → readOn 0 (decimal x) ≡ x
 unfolding decimal

@@ -1,4 +1,2 @@
 pub mod Text
 pub mod Written
-pub mod Word
-pub mod Column

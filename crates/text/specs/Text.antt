@@ -6,9 +6,7 @@ use Prim.Native.Nat.{ℕ, zero, suc, _+_, _*_, _/_, _%_, min}
 use lib.Dec.{ltb}
 use lib.ListN.{length, getD}
 use Rattle.diagram.specs.Bound.{mostVariables}
-use Rattle.table.specs.declared.Answer.{Answer}
 use Rattle.table.specs.declared.State.{State}
-use Rattle.table.specs.Answer.{number, value}
 use Rattle.table.specs.State.{stageOf, isNetwork}
 
 -- the words, in the bytes of their letters
@@ -32,9 +30,6 @@ cell-word = 99 ∷ 101 ∷ 108 ∷ 108 ∷ []
 
 abbrev pub root-word : List ℕ
 root-word = 114 ∷ 111 ∷ 111 ∷ 116 ∷ []
-
-abbrev pub row-word : List ℕ
-row-word = 114 ∷ 111 ∷ 119 ∷ []
 
 abbrev pub space : List ℕ
 space = 32 ∷ []
@@ -63,10 +58,6 @@ inTurn f (suc k) = inTurn f k ++ f k
 -- a word, a number and the line's end
 unfoldable pub line : List ℕ → ℕ → List ℕ
 line word x = word ++ (spaced x ++ newline)
-
--- a word, two numbers and the line's end
-unfoldable pub pairLine : List ℕ → ℕ → ℕ → List ℕ
-pairLine word x y = word ++ (spaced x ++ (spaced y ++ newline))
 
 -- 'order' and the variables, the top level first; 'At n = 0 the order line is `order`'
 unfoldable pub orderLine : ℕ → List ℕ → List ℕ
@@ -108,15 +99,3 @@ headingLines s cared =
 -- section 8's whole output for a table and its network
 unfoldable pub networkText : State → ℕ → List ℕ → List ℕ → List ℕ
 networkText s cared roots cells = headingLines s cared ++ heldLines s roots cells
-
--- what a call answers, by its number and its value
-unfoldable pub answered : Answer → List ℕ
-answered a = spaced (number a) ++ (spaced (value a) ++ newline)
-
--- the answer behind a word
-unfoldable pub answerLine : List ℕ → Answer → List ℕ
-answerLine word a = word ++ answered a
-
--- the answer of a row's evaluation
-unfoldable pub rowLine : ℕ → Answer → List ℕ
-rowLine row a = row-word ++ (spaced row ++ answered a)

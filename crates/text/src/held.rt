@@ -91,14 +91,6 @@ fn put_held(out: &mut [u8], at: usize, state: State, roots: &[u16], cells: &[u16
     at
 }
 
-// The lines of the held cells and roots; none where no network is held.
-pub fn held_lines(out: &mut [u8], state: State, roots: &[u16], cells: &[u16]) -> usize
-    ensures { λ r.
-        ⌜ Written (now (out .entry)) (now (out .exit)) 0 r (heldLines state (now (roots .entry)) (now (cells .entry))) ⌝ }
-{
-    put_held(out, 0, state, roots, cells)
-}
-
 // The lines of the cared bits and of the count.
 fn put_totals(out: &mut [u8], at: usize, cared: usize, count: usize) -> usize
     requires { ⌜ at ≤ length (now out) ⌝ }

@@ -6,12 +6,12 @@ ghost use Rattle.text.specs.Text.{digits, spaced, line};
 ghost use Rattle.text.specs.Written.{Written};
 
 // The bytes of a space and of a line's end.
-pub(crate) const SPACE: u8 = 32;
+const SPACE: u8 = 32;
 
 pub(crate) const NEWLINE: u8 = 10;
 
 // The most digits before a number's last; specs/Text.antt's `decimal` has the definition.
-pub(crate) const MORE_DIGITS: usize = 19;
+const MORE_DIGITS: usize = 19;
 
 // One byte.
 pub(crate) fn put_byte(out: &mut [u8], at: usize, byte: u8) -> usize
@@ -40,7 +40,7 @@ pub(crate) fn put_word(out: &mut [u8], at: usize, word: &[u8]) -> usize
 }
 
 // A number's digits, at most one more than `left`.
-pub(crate) fn put_digits(out: &mut [u8], at: usize, x: usize, left: usize) -> usize
+fn put_digits(out: &mut [u8], at: usize, x: usize, left: usize) -> usize
     requires { ⌜ at ≤ length (now out) ⌝ }
     ensures { λ r. ⌜ Written (now (out .entry)) (now (out .exit)) at r (digits left x) ⌝ }
 {
