@@ -1,18 +1,18 @@
--- What is written is read again: of a written file the reader makes the same state, roots and cells.
+-- What is written is read again: of a written file the reader makes the same state, roots and cells, and the table that they compute.
 -- Assumes nothing.
 use mathlib.Core.Path.{_≡_, refl, sym, ap, ap₂, _∙_, subst, subst₂}
 use mathlib.Core.Bool.{true, cond}
-use mathlib.Core.List.{List, _++_}
-use Prim.Native.Nat.{ℕ, _*_, _≤_, _<_}
+use mathlib.Core.List.{List}
+use Prim.Native.Nat.{ℕ, _*_, _≤_}
 use native.Mathlib.Omega.{arith}
 use borrow.Author.Tests.{ltb-true, ltb-false}
 use lib.Dec.{T, ltb}
-use lib.ListN.{getD, take, drop}
+use lib.ListN.{getD, take}
 use Rattle.diagram.specs.Bound.{mostOutputs}
 use Rattle.diagram.specs.Diagram.{Diagram, wellFormed}
-use Rattle.diagram.specs.Canonical.{canonical}
+use Rattle.diagram.specs.Canonical.{computedTable, canonical}
+use Rattle.diagram.specs.Table.{Table}
 use Rattle.diagram.proofs.Bools.{split, of-T}
-use Rattle.diagram.proofs.UpTo.{map-upTo-cong}
 use Rattle.table.specs.declared.Answer.the-variants.{Done}
 use Rattle.table.specs.declared.Outcome.{Outcome}
 use Rattle.table.specs.declared.State.{State}
@@ -20,13 +20,16 @@ use Rattle.table.specs.declared.Stage.the-variants.{Network}
 use Rattle.table.specs.Answer.{done}
 use Rattle.table.specs.State.{orderOf}
 use Rattle.table.specs.File.{fileInputs, fileOutputs, fileOrder}
-use Rattle.table.specs.Calls.{over}
+use Rattle.table.specs.Stream.{planeByte}
+use Rattle.table.specs.Calls.{planeSize, over}
 use Rattle.table.proofs.Held.{few-outputs}
+use Rattle.table.proofs.Over.{over-cong}
 use Rattle.lent.specs.Lent.{rootsSize, lentDiagram}
+use Rattle.lent.specs.Tabulate.{lentTable}
 use Rattle.network.specs.Build.{capacity, longEnough}
 use Rattle.canonical.proofs.Answered.{Success}
 use Rattle.cellfile.specs.File.{fileCount, fileRoot, cellNumber, fileDiagram}
-use Rattle.cellfile.specs.Read.{readAnswer, readOutcome, readRoots, readCells}
+use Rattle.cellfile.specs.Read.{readAnswer, readOutcome, readTable, readValues, readCare, readRoots, readCells}
 use Rattle.cellfile.specs.Write.{writeAnswer, writtenFile}
 use Rattle.cellfile.proofs.Reading.Copied.{outputs-fit, Copied, copied-diagram}
 use Rattle.cellfile.proofs.Reading.Checked.{Passed, checked}
@@ -37,12 +40,9 @@ use Rattle.cellfile.proofs.RoundTrips.WrittenFile.{writtenSize, written
 use Rattle.cellfile.proofs.RoundTrips.WrittenFile.{written-count, written-root, written-no-root, written-cell}
 use Rattle.cellfile.proofs.RoundTrips.WrittenAccepted.{held-order, written-shape, written-accepted}
 
-over-cong : (f g : ℕ → ℕ) (k : ℕ) (l : List ℕ) → ((i : ℕ) → i < k → f i ≡ g i) → over f k l ≡ over g k l
-over-cong f g k l e = ap (λ (m : List ℕ). m ++ drop k l) (map-upTo-cong k f g e)
-
--- of a call that read what was written of s, roots and cells: its outcome, and the lent roots and cells before and after
-pub record ReadAgain (s : State) (roots cells : List ℕ) (o : Outcome) (roots-before cells-before roots-after cells-after : List ℕ)
-    : Type 0 where
+-- of a call that read what was written of s, roots and cells: its outcome, and the lent values, care, roots and cells before and after
+pub record ReadAgain (s : State) (roots cells : List ℕ) (o : Outcome)
+    (values-before care-before roots-before cells-before values-after care-after roots-after cells-after : List ℕ) : Type 0 where
   pub answered : o .answer ≡ Done 0
   pub inputs : o .state .n ≡ s .n
   pub outputs : o .state .m ≡ s .m
@@ -53,6 +53,9 @@ pub record ReadAgain (s : State) (roots cells : List ℕ) (o : Outcome) (roots-b
   -- the first m roots, then zeros; the counted cells
   pub rooted : roots-after ≡ over (λ j. cond (ltb j (s .m)) (getD roots j 0) 0) rootsSize roots-before
   pub celled : cells-after ≡ over (λ x. getD cells x 0) (3 * s .count) cells-before
+  -- 'the table that the cells compute in values, and every row cared': that of the cells written; past the stream both are zero
+  pub valued : values-after ≡ over (planeByte (λ x. x .value) (lentTable s roots cells)) planeSize values-before
+  pub cared : care-after ≡ over (planeByte (λ x. x .care) (lentTable s roots cells)) planeSize care-before
 
 module _ (s : State) (roots cells : List ℕ) (p : Success s roots cells) where
   -- what was written is a copy of the file's numbers
@@ -68,16 +71,26 @@ module _ (s : State) (roots cells : List ℕ) (p : Success s roots cells) where
         enough-roots = p .long;
       }
 
-  -- so the file passes the tests that the cells and roots passed
+  -- so its diagram, and the table that this computes, are those of the cells and roots
+  written-diagram : fileDiagram (writtenBytes s roots cells) ≡ lentDiagram (s .count) (s .m) cells roots
+  written-diagram =
+      let F : List ℕ = writtenBytes s roots cells in
+      sym (copied-diagram F (outputs-fit F (written-shape s roots cells (p .held))) cells roots written-copy)
+      ∙ ap₂ (λ (x y : ℕ). lentDiagram x y cells roots) (written-count s roots cells) (written-outputs s roots cells)
+
+  written-table : readTable (writtenBytes s roots cells) ≡ lentTable s roots cells
+  written-table =
+      λ i. computedTable true (written-inputs s roots cells i) (written-outputs s roots cells i) (held-order s roots cells (p .held) i)
+      (written-diagram i)
+
+  -- and the file passes the tests that the cells and roots passed
   written-passed : Passed (writtenBytes s roots cells)
   written-passed =
       let F : List ℕ = writtenBytes s roots cells in
       let n : fileInputs F ≡ s .n = written-inputs s roots cells in
       let m : fileOutputs F ≡ s .m = written-outputs s roots cells in
       let o : fileOrder F ≡ orderOf s = held-order s roots cells (p .held) in
-      let d : fileDiagram F ≡ lentDiagram (s .count) (s .m) cells roots =
-      sym (copied-diagram F (outputs-fit F (written-shape s roots cells (p .held))) cells roots written-copy)
-      ∙ ap₂ (λ (x y : ℕ). lentDiagram x y cells roots) (written-count s roots cells) m in
+      let d : fileDiagram F ≡ lentDiagram (s .count) (s .m) cells roots = written-diagram in
       record {
         formed = subst₂ (λ (x y : ℕ). T (wellFormed true x y (fileDiagram F))) (sym n) (sym m)
             (subst (λ (D : Diagram). T (wellFormed true (s .n) (s .m) D)) (sym d) (p .formed));
@@ -94,9 +107,11 @@ module _ (s : State) (roots cells : List ℕ) (p : Success s roots cells) where
         ∙ checked F written-passed
 
     again : (before : State) → ReadAgain s roots cells (readOutcome before (writtenBytes s roots cells) values care work′ roots′ cells′)
-        roots′ cells′ (readRoots (writtenBytes s roots cells) values care work′ roots′ cells′)
+        values care roots′ cells′ (readValues (writtenBytes s roots cells) values care work′ roots′ cells′)
+        (readCare (writtenBytes s roots cells) values care work′ roots′ cells′)
+        (readRoots (writtenBytes s roots cells) values care work′ roots′ cells′)
         (readCells (writtenBytes s roots cells) values care work′ roots′ cells′)
-    unfolding readOutcome readRoots readCells rootsSize
+    unfolding readOutcome readValues readCare readRoots readCells rootsSize
     again before =
         let F : List ℕ = writtenBytes s roots cells in
         let few : s .m ≤ mostOutputs = few-outputs s (p .held) in
@@ -113,16 +128,20 @@ module _ (s : State) (roots cells : List ℕ) (p : Success s roots cells) where
               (λ e. rw e (written-no-root s roots cells few j (ltb-false j (s .m) e) q)));
           celled = ap (λ (x : ℕ). over (cellNumber F) (3 * x) cells′) (written-count s roots cells)
               ∙ over-cong (cellNumber F) (λ x. getD cells x 0) (3 * s .count) cells′ (written-cell s roots cells);
+          valued = ap (λ (t : Table). over (planeByte (λ x. x .value) t) planeSize values) written-table;
+          cared = ap (λ (t : Table). over (planeByte (λ x. x .care) t) planeSize care) written-table;
         }
 
 pub written-read : (s : State) (roots cells work buffer : List ℕ) → done (writeAnswer s roots cells work buffer) ≡ true
     → (before : State) (values care work′ roots′ cells′ : List ℕ) → T (longEnough values care work′ roots′) → s .count ≤ capacity cells′
     → (file : List ℕ) → file ≡ take (writtenSize s) (writtenFile s roots cells work buffer)
-    → ReadAgain s roots cells (readOutcome before file values care work′ roots′ cells′) roots′ cells′
+    → ReadAgain s roots cells (readOutcome before file values care work′ roots′ cells′) values care roots′ cells′
+    (readValues file values care work′ roots′ cells′) (readCare file values care work′ roots′ cells′)
     (readRoots file values care work′ roots′ cells′) (readCells file values care work′ roots′ cells′)
 written-read s roots cells work buffer e before values care work′ roots′ cells′ l b file q =
     subst
-    (λ (F : List ℕ). ReadAgain s roots cells (readOutcome before F values care work′ roots′ cells′) roots′ cells′
+    (λ (F : List ℕ). ReadAgain s roots cells (readOutcome before F values care work′ roots′ cells′) values care roots′ cells′
+    (readValues F values care work′ roots′ cells′) (readCare F values care work′ roots′ cells′)
     (readRoots F values care work′ roots′ cells′) (readCells F values care work′ roots′ cells′))
     (sym (q ∙ the-file s roots cells work buffer e))
     (again s roots cells (network-passed s roots cells work buffer e) values care work′ roots′ cells′ l b before)
