@@ -33,6 +33,8 @@ pub mod Sift
 pub mod Differences
 pub mod Moves
 pub mod Pass
+pub mod MaskedRows
+pub mod FreeRows
 pub mod Levels
 pub mod FirstSeen
 pub mod SeenClasses

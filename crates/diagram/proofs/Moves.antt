@@ -3,7 +3,7 @@
 -- Assumes nothing.
 use mathlib.Core.Path.{_≡_, refl, sym, ap, ap₂, _∙_, subst}
 use mathlib.Core.List.{List}
-use Prim.Native.Nat.{ℕ, _+_, _*_, _≤_, _<_}
+use Prim.Native.Nat.{ℕ, _+_, _*_, _/_, _%_, _≤_, _<_}
 use native.Mathlib.Nat.{mul-add-div, mul-add-mod-self-left, div-eq-of-lt, mod-eq-of-lt, add-zero}
 use native.Mathlib.Omega.{arith}
 use lib.Dec.{T, eqb, le→leb}
@@ -63,3 +63,11 @@ module _ (t : Table) (order : List ℕ) where
       let least : cost t (moved v p order) ≤ length (D .nodes) = least-cost t (moved v p order) (moved-order (t .n) v p order o h) D s in
       subst (λ (z : ℤ). z ≤ℤ pos (length (D .nodes))) (sym (difference-back (cost t (moved v p order)) (cost t order)))
       (record { le = le→leb (cost t (moved v p order)) (length (D .nodes)) least })
+
+-- a report goes by the number of variables and by the costs alone
+pub gains-cong : (t u : Table) → t .n ≡ u .n → ((order : List ℕ) → cost t order ≡ cost u order) → (order : List ℕ) (e : ℕ)
+    → gainAt t order e ≡ gainAt u order e
+unfolding gainAt gain
+gains-cong t u d costs order e =
+    ap₂ (λ (x y : ℕ). pos x -ℤ pos y)
+    (ap (λ (n : ℕ). cost t (moved (e / n) (e % n) order)) d ∙ costs (moved (e / u .n) (e % u .n) order)) (costs order)

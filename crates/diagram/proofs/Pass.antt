@@ -2,22 +2,22 @@
 -- Assumes nothing.
 use mathlib.Core.Path.{_≡_, refl, sym, ap, _∙_, subst}
 use mathlib.Core.Bool.{false, not, cond}
-use mathlib.Core.List.{List}
+use mathlib.Core.List.{List, _∷_}
 use Prim.Native.Nat.{ℕ, zero, suc, _+_, _*_, _/_, _≤_, _<_, min}
 use native.Mathlib.Nat.{le-refl, le-of-lt, le-trans, le-antisymm, min-le-right, mul-le-mul-right, div-mul-le-self, lt-div-mul-add}
 use native.Mathlib.Omega.{arith}
 use lib.Dec.{T, eqb, ltb, leb, ltb→lt, lt→ltb, nltb→le, leb→le, nleb→lt}
 use lib.ListN.{length}
-use Rattle.diagram.specs.Lists.{all, has, distinct, upTo}
+use Rattle.diagram.specs.Lists.{all, has, keep, distinct, upTo}
 use Rattle.diagram.specs.Order.{isOrder, moved}
 use Rattle.diagram.specs.Table.{Table, cost}
-use Rattle.diagram.specs.Sift.{nodesOf, Pass, unsifted, next, turn, start, sifting, pass, allowed}
+use Rattle.diagram.specs.Sift.{sift, nodesOf, most, Pass, unsifted, next, turn, start, sifting, pass, allowed}
 use Rattle.diagram.specs.Demands.{SiftedLeast, orderAfter, TurnsLeast}
 use Rattle.diagram.proofs.Bools.{split, of-not, to-T, to-not, and-T}
 use Rattle.diagram.proofs.Lists.{eqb-equality, has-keep, keep-has, index-lt, pigeonhole}
 use Rattle.diagram.proofs.Numbers.{length-upTo, has-upTo, upTo-lt, none-missing}
 use Rattle.diagram.proofs.Most.{rising-distinct, rising-keep, rising-upTo, most-has, most-most, most-first}
-use Rattle.diagram.proofs.Sift.{sift-order, sift-stays, sifted}
+use Rattle.diagram.proofs.Sift.{sift-order, sift-stays, sifted, sift-cong}
 
 -- after k turns, whatever the limit
 unfoldable pub afterTurns : Table → ℕ → List ℕ → Pass
@@ -227,6 +227,30 @@ pass-every t limit order o w =
     let g : Going t (pass t limit order) = pass-going t limit order o in
     none-missing (t .n) (pass t limit order .sifted) (g .apart) (g .below)
     (pass-sifted t limit order ∙ allowed-only (t .n) limit (t .n) (le-refl (t .n)) w (λ l. absurd (omega arith)))
+
+-- a pass goes by the number of variables, by the costs and by the nodes of each variable alone
+module _ (t u : Table) (e : t .n ≡ u .n) (costs : (order : List ℕ) → cost t order ≡ cost u order)
+    (nodes : (order : List ℕ) (v : ℕ) → nodesOf t order v ≡ nodesOf u order v) where
+  next-cong : (s : Pass) → next t s ≡ next u s
+  unfolding next
+  next-cong s = λ i. most (λ v. nodes (s .order) v i) (keep (λ v. not (has eqb v (s .sifted))) (upTo (e i)))
+
+  turn-cong : (s : Pass) → turn t s ≡ turn u s
+  unfolding turn
+  turn-cong s =
+      let left : sift t (next t s) (s .order) ≡ sift u (next u s) (s .order) =
+      ap (λ (v : ℕ). sift t v (s .order)) (next-cong s) ∙ sift-cong t u e costs (next u s) (s .order) in
+      λ i. record { order = left i; sifted = next-cong s i ∷ s .sifted; tried = s .tried + e i }
+
+  after-cong : (k : ℕ) (order : List ℕ) → afterTurns t k order ≡ afterTurns u k order
+  unfolding afterTurns
+  after-cong zero order = refl
+  after-cong (suc k) order = turn-cong (afterTurns t k order) ∙ ap (turn u) (after-cong k order)
+
+  pub pass-cong : (limit : ℕ) (order : List ℕ) → pass t limit order ≡ pass u limit order
+  pass-cong limit order =
+      turns t limit order ∙ after-cong (allowed (t .n) limit) order
+      ∙ ap (λ (n : ℕ). afterTurns u (allowed n limit) order) e ∙ sym (turns u limit order)
 
 -- demand 3 at every turn, in the paper's words: the limits n × k name the turns
 pub turns-least : (t : Table) (order : List ℕ) → TurnsLeast t order

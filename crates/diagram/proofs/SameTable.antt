@@ -1,48 +1,34 @@
 -- A network depends on a table's rows alone: two tables with the same rows have one network, so a diagram stands for its table, and to go
 -- to another order and back by what the diagrams compute loses nothing.
 -- Assumes nothing.
-use mathlib.Core.Path.{_≡_, refl, sym, ap, ap₂, _∙_}
+use mathlib.Core.Path.{_≡_, refl, sym, ap, _∙_}
 use mathlib.Core.Bool.{Bool}
 use mathlib.Core.List.{List}
-use Prim.Native.Nat.{ℕ, zero, suc, _+_, _*_, _<_, _^_}
+use Prim.Native.Nat.{ℕ, _<_, _^_}
 use lib.Dec.{T}
 use lib.ListN.{getD}
-use Rattle.diagram.specs.Tree.{node, leaf, draw}
-use Rattle.diagram.specs.Fill.{Row, fill}
+use Rattle.diagram.specs.Fill.{Row}
 use Rattle.diagram.specs.Diagram.{Diagram, wellFormed, gives}
-use Rattle.diagram.specs.Network.{network}
-use Rattle.diagram.specs.Order.{isOrder, rowUnder, behind}
-use Rattle.diagram.specs.Table.{Table, FullyCared, reordered, filled, networkOf, Computes}
+use Rattle.diagram.specs.Order.{isOrder, rowUnder}
+use Rattle.diagram.specs.Table.{Table, FullyCared, networkOf, Computes}
 use Rattle.diagram.specs.Canonical.{computedTable, canonical}
 use Rattle.diagram.proofs.Bools.{of-T}
-use Rattle.diagram.proofs.UpTo.{map-upTo-cong}
-use Rattle.diagram.proofs.Order.{behind-lt}
 use Rattle.diagram.proofs.Demands.{whole, right}
 use Rattle.diagram.proofs.Canonical.{canonical-table}
-
-draw-cong : {A : Type 0} (d : ℕ) (f g : ℕ → A) (s : ℕ) → ((r : ℕ) → f r ≡ g r) → draw d f s ≡ draw d g s
-draw-cong zero f g s e = ap leaf (e s)
-draw-cong (suc d) f g s e = ap₂ node (draw-cong d f g (2 * s) e) (draw-cong d f g (2 * s + 1) e)
-
--- a table of n variables and m outputs by its rows
-abbrev tableOf : ℕ → ℕ → (ℕ → ℕ → Row) → Table
-tableOf n m row = record { n = n; m = m; row = row }
-
-rows-same : (inv : Bool) (n m : ℕ) (f g : ℕ → ℕ → Row) (order : List ℕ) → ((j r : ℕ) → j < m → r < 2 ^ n → f j r ≡ g j r)
-    → networkOf inv (tableOf n m f) order ≡ networkOf inv (tableOf n m g) order
-unfolding networkOf filled
-rows-same inv n m f g order e =
-    ap (λ l. network inv n (fill inv n l))
-    (map-upTo-cong m (reordered (tableOf n m f) order) (reordered (tableOf n m g) order)
-    (λ j h. draw-cong n (λ s. f j (behind n order s)) (λ s. g j (behind n order s)) 0
-    (λ s. e j (behind n order s) h (behind-lt n order s))))
+use Rattle.diagram.proofs.FreeRows.{network-alike}
 
 -- one network of two tables with the same rows, under any order
 pub same-table : (inv : Bool) (t u : Table) (order : List ℕ) → t .n ≡ u .n → t .m ≡ u .m
     → ((j r : ℕ) → j < t .m → r < 2 ^ t .n → t .row j r ≡ u .row j r) → networkOf inv t order ≡ networkOf inv u order
 same-table inv t u order en em e =
-    let z : tableOf (t .n) (t .m) (u .row) ≡ u = λ i. record { n = en i; m = em i; row = u .row } in
-    rows-same inv (t .n) (t .m) (t .row) (u .row) order e ∙ ap (λ (x : Table). networkOf inv x order) z
+    network-alike t u
+    (record {
+      inputs = en;
+      outputs = em;
+      cared = λ j r h k. ap (λ (x : Row). x .care) (e j r h k);
+      valued = λ j r h k _. ap (λ (x : Row). x .value) (e j r h k);
+    })
+    inv order
 
 -- of fully cared ones with the same values
 pub cared-same : (inv : Bool) (t u : Table) (order : List ℕ) → t .n ≡ u .n → t .m ≡ u .m

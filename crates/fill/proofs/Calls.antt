@@ -2,6 +2,5 @@ pub mod Answers
 pub mod Filling
 pub mod FreeRows
 pub mod HeldFilling
-pub mod MaskedRows
 pub mod TriedCounts
 pub mod TrialAnswers

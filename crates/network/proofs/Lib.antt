@@ -17,3 +17,4 @@ pub mod WorkLinks
 pub mod BuiltCanonical
 pub mod BuiltRows
 pub mod Swapping
+pub mod FreeRows

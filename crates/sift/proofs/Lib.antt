@@ -15,3 +15,4 @@ pub mod PassUnderWay
 pub mod PassOutcome
 pub mod Report
 pub mod MovesOutcome
+pub mod FreeRows

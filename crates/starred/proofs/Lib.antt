@@ -1,4 +1,3 @@
-pub mod Alike
 pub mod HeldAlike
 pub mod Answered
 pub mod Shown

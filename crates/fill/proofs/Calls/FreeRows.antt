@@ -1,71 +1,60 @@
--- Two lents that agree on the care bits of the stream, and on its value bits where they are cared, are counted alike: the value bits of
--- free rows and all bits past the stream never matter.
+-- Two lents that agree on the care bits of the stream, and on its value bits where they are cared, hold tables that are alike, and are
+-- counted alike: the value bits of free rows and all bits past the stream never matter.
 -- Assumes nothing.
 use mathlib.Core.Path.{_≡_, refl, sym, ap, ap₂, _∙_}
-use mathlib.Core.Bool.{Bool, true, false, not, cond, _&&_}
-use mathlib.Core.List.{List, map, map-map}
-use Prim.Native.Nat.{ℕ, suc, _+_, _*_, _^_, _≤_, _<_}
-use native.Mathlib.Nat.{mul-le-mul-right}
-use native.Mathlib.Omega.{arith}
+use mathlib.Core.Bool.{Bool, true, not, cond}
+use mathlib.Core.List.{List, [], _∷_, map}
+use Prim.Native.Nat.{ℕ, zero, suc, _+_, _*_, _^_, _<_}
+use lib.Arith.{digits-lt}
 use lib.Dec.{T}
-use Rattle.diagram.specs.Lists.{upTo}
+use lib.ListN.{length, length-map}
 use Rattle.diagram.specs.Tree.{Tree}
-use Rattle.diagram.specs.Order.{behind}
-use Rattle.diagram.specs.Fill.{Link, fill, trace}
-use Rattle.diagram.specs.Network.{count}
-use Rattle.diagram.specs.Table.{reordered, filled, cost}
-use Rattle.diagram.proofs.UpTo.{map-upTo-cong}
-use Rattle.diagram.proofs.Order.{behind-lt}
+use Rattle.diagram.specs.Fill.{Row, Link, Level, level, trace}
+use Rattle.diagram.specs.Network.{counts}
+use Rattle.diagram.specs.Table.{filled}
+use Rattle.diagram.proofs.Evened.{nextOf}
+use Rattle.diagram.proofs.MaskedRows.{masked, level-masked, next-masked, trace-masked}
+use Rattle.diagram.proofs.FreeRows.{Alike, outputs-same, rows-alike, filled-alike, cost-alike}
 use Rattle.block.specs.Bits.{streamBit}
 use Rattle.table.specs.declared.State.{State}
 use Rattle.table.specs.declared.Answer.{Answer}
 use Rattle.table.specs.declared.Answer.the-variants.{Done, ShortBuffer, NoTable}
 use Rattle.table.specs.Answer.{unless, done}
 use Rattle.table.specs.State.{orderOf, stageOf, isNothing}
-use Rattle.fill.specs.Work.{traceWork}
-use Rattle.fill.specs.Calls.{heldTable, enough, countAnswer, drawnOutputs, levelsOf, linksWork, entryCounts}
-use Rattle.fill.proofs.Calls.MaskedRows.{mask, masked, fill-masked, trace-masked, counts-masked, draw-masked}
+use Rattle.fill.specs.Work.{traceWork, zeroWork}
+use Rattle.fill.specs.Calls.{heldTable, enough, countAnswer, countWork, drawnOutputs, levelsOf, linksWork, entryCounts}
+use Rattle.fill.proofs.Descents.EntryCounts.{entries-zero, entries-suc}
+
+-- the entries of each level, where free rows have the value 0
+counts-masked : (d : ℕ) (fs : List (Tree Row d)) → entryCounts d (map masked fs) ≡ entryCounts d fs
+counts-masked zero fs = entries-zero (map masked fs) ∙ sym (entries-zero fs)
+counts-masked (suc d) fs =
+    let es = level true [] fs .entries in
+    entries-suc d (map masked fs)
+    ∙ ap (λ (l : Level (suc d)). length (l .entries) ∷ entryCounts d (nextOf (l .entries))) (level-masked true [] fs)
+    ∙ ap₂ (λ (n : ℕ) (l : List ℕ). n ∷ l) (length-map es masked) (ap (entryCounts d) (next-masked es) ∙ counts-masked d (nextOf es))
+    ∙ sym (entries-suc d fs)
 
 -- the first `bits` bits agree on care, and on values where they are cared
-abbrev pub Alike : ℕ → List ℕ → List ℕ → List ℕ → List ℕ → Type 0
-Alike bits values care values′ care′ =
+abbrev pub AlikeBits : ℕ → List ℕ → List ℕ → List ℕ → List ℕ → Type 0
+AlikeBits bits values care values′ care′ =
     (i : ℕ) → i < bits → (streamBit care i ≡ streamBit care′ i) × (T (streamBit care i) → streamBit values i ≡ streamBit values′ i)
 
-and-alike : (c v v′ : Bool) → (T c → v ≡ v′) → (c && v) ≡ (c && v′)
-and-alike true v v′ h = h tt
-and-alike false v v′ h = refl
-
-pub mask-alike : (c c′ v v′ : Bool) → c ≡ c′ → (T c → v ≡ v′)
-    → mask (record { value = v; care = c }) ≡ mask (record { value = v′; care = c′ })
-mask-alike c c′ v v′ e h =
-    ap₂ (λ (b d : Bool). record { value = b; care = d }) (and-alike c v v′ h ∙ ap (λ (b : Bool). b && v′) e) e
-
-module _ (s : State) (values care values′ care′ : List ℕ) (alike : Alike (s .m * 2 ^ s .n) values care values′ care′) where
-  -- a row of an output stands within the stream
-  row-alike : (j x : ℕ) → j < s .m → mask (heldTable s values care .row j (behind (s .n) (orderOf s) x))
-      ≡ mask (heldTable s values′ care′ .row j (behind (s .n) (orderOf s) x))
-  row-alike j x h =
-      let b = behind (s .n) (orderOf s) x in
-      let i = j * 2 ^ s .n + b in
-      let up : suc j * 2 ^ s .n ≤ s .m * 2 ^ s .n = mul-le-mul-right (2 ^ s .n) h in
-      let a = alike i (omega (arith, behind-lt (s .n) (orderOf s) x)) in
-      mask-alike (streamBit care i) (streamBit care′ i) (streamBit values i) (streamBit values′ i) (a .0) (a .1)
+module _ (s : State) (values care values′ care′ : List ℕ) (alike : AlikeBits (s .m * 2 ^ s .n) values care values′ care′) where
+  -- a row of an output stands within the stream, so the tables are alike
+  pub held-alike : Alike (heldTable s values care) (heldTable s values′ care′)
+  held-alike =
+      record {
+        inputs = refl;
+        outputs = refl;
+        cared = λ j r h k. alike (j * 2 ^ s .n + r) (digits-lt h k) .0;
+        valued = λ j r h k. alike (j * 2 ^ s .n + r) (digits-lt h k) .1;
+      }
 
   outputs-alike : map masked (drawnOutputs s values care) ≡ map masked (drawnOutputs s values′ care′)
   outputs-alike =
-      let f = reordered (heldTable s values care) (orderOf s) in
-      let g = reordered (heldTable s values′ care′) (orderOf s) in
-      map-map masked f (upTo (s .m))
-      ∙ map-upTo-cong (s .m) (λ j. masked (f j)) (λ j. masked (g j))
-      (λ j h. draw-masked (s .n) (λ x. heldTable s values care .row j (behind (s .n) (orderOf s) x))
-      (λ x. heldTable s values′ care′ .row j (behind (s .n) (orderOf s) x)) 0 (λ x. row-alike j x h))
-      ∙ sym (map-map masked g (upTo (s .m)))
-
-  pub filled-alike : filled true (heldTable s values care) (orderOf s) ≡ filled true (heldTable s values′ care′) (orderOf s)
-  unfolding filled
-  filled-alike =
-      sym (fill-masked true (s .n) (drawnOutputs s values care)) ∙ ap (fill true (s .n)) outputs-alike
-      ∙ fill-masked true (s .n) (drawnOutputs s values′ care′)
+      outputs-same (heldTable s values care) (heldTable s values′ care′ .row)
+      (rows-alike (heldTable s values care) (heldTable s values′ care′) held-alike) (orderOf s)
 
   entries-alike : entryCounts (s .n) (drawnOutputs s values care) ≡ entryCounts (s .n) (drawnOutputs s values′ care′)
   entries-alike =
@@ -77,17 +66,21 @@ module _ (s : State) (values care values′ care′ : List ℕ) (alike : Alike (
       sym (trace-masked true (s .n) (drawnOutputs s values care)) ∙ ap (trace true (s .n)) outputs-alike
       ∙ trace-masked true (s .n) (drawnOutputs s values′ care′)
 
+  counts-alike : counts true (s .n) (filled true (heldTable s values care) (orderOf s))
+      ≡ counts true (s .n) (filled true (heldTable s values′ care′) (orderOf s))
+  counts-alike =
+      filled-alike (heldTable s values care) (heldTable s values′ care′) held-alike {A = List ℕ} true (λ n f. counts true n (f (orderOf s)))
+
   module _ (work work′ : List ℕ) (room : enough values care work ≡ enough values′ care′ work′) where
     pub answer-alike : countAnswer s values care work ≡ countAnswer s values′ care′ work′
-    unfolding countAnswer cost
+    unfolding countAnswer
     answer-alike =
-        ap₂ (λ (b : Bool) (ts : List (Tree Bool (s .n))).
-        unless b ShortBuffer (unless (not (isNothing (stageOf s))) NoTable (Done (count true (s .n) ts))))
-        room filled-alike
+        ap₂ (λ (b : Bool) (c : ℕ). unless b ShortBuffer (unless (not (isNothing (stageOf s))) NoTable (Done c))) room
+        (cost-alike (heldTable s values care) (heldTable s values′ care′) held-alike (orderOf s))
 
     pub levels-alike : levelsOf s values care work ≡ levelsOf s values′ care′ work′
     unfolding levelsOf
-    levels-alike = rw (answer-alike, entries-alike, filled-alike)
+    levels-alike = rw (answer-alike, entries-alike, counts-alike)
 
   -- the links that are left in the same work buffer
   pub links-alike : (work : List ℕ) → enough values care work ≡ enough values′ care′ work
@@ -95,3 +88,9 @@ module _ (s : State) (values care values′ care′ : List ℕ) (alike : Alike (
   unfolding linksWork
   links-alike work room =
       ap₂ (λ (a : Answer) (kss : List (List Link)). cond (done a) (traceWork kss work) work) (answer-alike work work room) trace-alike
+
+  -- and the work buffer after a count
+  pub work-alike : (work : List ℕ) → enough values care work ≡ enough values′ care′ work
+      → countWork s values care work ≡ countWork s values′ care′ work
+  unfolding countWork
+  work-alike work room = ap (λ (a : Answer). cond (done a) (zeroWork work) work) (answer-alike work work room)

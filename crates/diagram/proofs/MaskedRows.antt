@@ -4,16 +4,13 @@ use mathlib.Core.Path.{_≡_, refl, sym, ap, ap₂, _∙_}
 use mathlib.Core.Bool.{Bool, true, false, not, cond, Bool·beq, _&&_, _||_}
 use mathlib.Core.List.{List, [], _∷_, map}
 use Prim.Native.Nat.{ℕ, zero, suc, _+_, _*_}
-use lib.ListN.{length, length-map}
 use Rattle.diagram.specs.Lists.{flip}
 use Rattle.diagram.specs.Tree.{Tree, leaf, node, draw, half, halves, pairs}
 use Rattle.diagram.specs.Fill.{Row, always, agree, merge, Link, Linked, Level, after, then, along, candidate, level, follow, settled, fill}
 use Rattle.diagram.specs.Fill.{unites, trace}
 use Rattle.diagram.proofs.Bools.{split}
 use Rattle.diagram.proofs.Evened.{evened, nextOf}
 use Rattle.diagram.proofs.Fill.{fill-zero, fill-suc, trace-zero, trace-suc}
-use Rattle.fill.specs.Calls.{entryCounts}
-use Rattle.fill.proofs.Descents.EntryCounts.{entries-zero, entries-suc}
 
 -- a row whose value is 0 where it is free, and every row of a tree so
 abbrev pub mask : Row → Row
@@ -56,7 +53,7 @@ merge-masked i (node l h) (node l′ h′) = ap₂ node (merge-masked i l l′) 
 abbrev maskedPlaced : {d : ℕ} → Linked d → Linked d
 maskedPlaced p = record { entries = map masked (p .entries); link = p .link }
 
-abbrev maskedLevel : {d : ℕ} → Level d → Level d
+abbrev pub maskedLevel : {d : ℕ} → Level d → Level d
 maskedLevel l = record { entries = map masked (l .entries); links = l .links }
 
 along-masked : {d : ℕ} (inv : Bool) (k : ℕ) (f : Tree Row d) (gs : List (Tree Row d))
@@ -75,7 +72,7 @@ candidate-masked inv f gs =
     rw (always-masked false f, always-masked true f)
     (split (always false f) (λ e. rw e) (λ e. rw e (split (always true f) (λ q. rw q) (λ q. rw q (along-masked inv 0 f gs)))))
 
-level-masked : {d : ℕ} (inv : Bool) (gs fs : List (Tree Row d)) → level inv (map masked gs) (map masked fs) ≡ maskedLevel (level inv gs fs)
+pub level-masked : {d : ℕ} (inv : Bool) (gs fs : List (Tree Row d)) → level inv (map masked gs) (map masked fs) ≡ maskedLevel (level inv gs fs)
 level-masked inv gs [] = refl
 level-masked {d} inv gs (f ∷ fs) =
     rw (candidate-masked inv f gs)
@@ -101,7 +98,7 @@ all-evened : {d : ℕ} (ts : List (Tree Row (suc d))) → map evened (map masked
 all-evened [] = refl
 all-evened {d} (t ∷ ts) = ap₂ (λ (x : Tree Row (suc d)) (l : List (Tree Row (suc d))). x ∷ l) (evened-masked t) (all-evened ts)
 
-next-masked : {d : ℕ} (ts : List (Tree Row (suc d))) → nextOf (map masked ts) ≡ map masked (nextOf ts)
+pub next-masked : {d : ℕ} (ts : List (Tree Row (suc d))) → nextOf (map masked ts) ≡ map masked (nextOf ts)
 next-masked ts = ap halves (all-evened ts) ∙ halves-masked (map evened ts)
 
 -- all levels
@@ -133,15 +130,6 @@ trace-masked inv (suc d) fs =
     ∙ ap (λ (l : Level (suc d)). l .links ∷ trace inv d (nextOf (l .entries))) (level-masked inv [] fs)
     ∙ ap (λ (kss : List (List Link)). level inv [] fs .links ∷ kss) (ap (trace inv d) (next-masked es) ∙ trace-masked inv d (nextOf es))
     ∙ sym (trace-suc inv d fs)
-
-pub counts-masked : (d : ℕ) (fs : List (Tree Row d)) → entryCounts d (map masked fs) ≡ entryCounts d fs
-counts-masked zero fs = entries-zero (map masked fs) ∙ sym (entries-zero fs)
-counts-masked (suc d) fs =
-    let es = level true [] fs .entries in
-    entries-suc d (map masked fs)
-    ∙ ap (λ (l : Level (suc d)). length (l .entries) ∷ entryCounts d (nextOf (l .entries))) (level-masked true [] fs)
-    ∙ ap₂ (λ (n : ℕ) (l : List ℕ). n ∷ l) (length-map es masked) (ap (entryCounts d) (next-masked es) ∙ counts-masked d (nextOf es))
-    ∙ sym (entries-suc d fs)
 
 -- a drawn tree
 pub draw-masked : (d : ℕ) (f g : ℕ → Row) (s : ℕ) → ((x : ℕ) → mask (f x) ≡ mask (g x)) → masked (draw d f s) ≡ masked (draw d g s)
