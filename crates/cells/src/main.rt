@@ -1,12 +1,12 @@
 // Writes the network file of the table on standard input to standard output (document 02, 2.2).
 use cellfile::FILE;
+use filed::netfile::write_table;
 use fill::WORK;
 use lent::ROOTS;
 use libc::STDIN_FILENO;
 use libc::STDOUT_FILENO;
+use printed::built::CELLS;
 use printed::input::LONGEST;
-use printed::netfile::write_table;
-use printed::output::CELLS;
 use table::PLANE;
 
 fn main() {

@@ -18,7 +18,7 @@ use Rattle.lent.specs.Lent.{rootsSize}
 use Rattle.network.specs.Build.{wanted, capacity, buildAnswer}
 use Rattle.network.proofs.HeldRead.{few-wanted}
 use Rattle.printed.specs.Input.{inputValues, inputCare}
-use Rattle.printed.specs.inner.BuiltInput.{read, isRead}
+use Rattle.printed.specs.BuiltInput.{read, isRead}
 use Rattle.printed.proofs.LoadedInput.{read-held, values-long, care-long, values-length, care-length}
 
 -- a table that is held is built, where the buffers have section 2's sizes and the board has 2,159 cells

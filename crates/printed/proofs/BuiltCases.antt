@@ -10,7 +10,7 @@ use Rattle.table.specs.Answer.{done}
 use Rattle.table.specs.State.{unloadedState}
 use Rattle.network.specs.Build.{buildOutcome, buildRoots, buildCells, buildWork}
 use Rattle.printed.specs.Input.{inputOutcome, inputValues, inputCare}
-use Rattle.printed.specs.inner.BuiltInput.{read, isRead, builtOutcome, builtWork, builtRoots, builtCells}
+use Rattle.printed.specs.BuiltInput.{read, isRead, builtOutcome, builtWork, builtRoots, builtCells}
 
 -- the outcome, and the contents of the buffers
 abbrev pub BuiltInput : (file values care work roots cells : List ℕ) (r : Outcome) (values′ care′ work′ roots′ cells′ : List ℕ) → Type 0

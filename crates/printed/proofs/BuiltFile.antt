@@ -40,7 +40,7 @@ use Rattle.printed.specs.Built.{
   outputCells,
   Whole,
 }
-use Rattle.printed.specs.inner.BuiltInput.{read, isRead, builtOutcome, builtWork, builtRoots, builtCells}
+use Rattle.printed.specs.BuiltInput.{read, isRead, builtOutcome, builtWork, builtRoots, builtCells}
 use Rattle.printed.proofs.LoadedInput.{loaded-order, read-accepted, read-state}
 use Rattle.printed.proofs.BoardEnough.{answer-done}
 use Rattle.printed.proofs.WholeTexts.{whole-text}

@@ -28,7 +28,7 @@ use Rattle.printed.specs.Built.{
   Whole,
 }
 use Rattle.printed.specs.Output.{textSize, fileCared, fileText, outputOf}
-use Rattle.printed.specs.inner.BuiltInput.{builtOutcome, builtWork, builtRoots, builtCells}
+use Rattle.printed.specs.BuiltInput.{builtOutcome, builtWork, builtRoots, builtCells}
 use Rattle.printed.specs.inner.Printed.{outcomeText, printedText}
 use Rattle.printed.proofs.LoadedInput.{loaded-order, loaded-held}
 use Rattle.printed.proofs.BuiltFile as built

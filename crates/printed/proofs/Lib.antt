@@ -11,7 +11,3 @@ pub mod NeverCut
 pub mod Sizes
 pub mod FileText
 pub mod FileOutput
-pub mod BuiltCanonical
-pub mod FileBytes
-pub mod FiledCases
-pub mod FiledOutput

@@ -15,7 +15,7 @@ use Rattle.table.specs.Calls.{planeSize, loadAnswer, loadedState, loadOutcome, 
 use Rattle.table.proofs.Over.{length-over}
 use Rattle.table.proofs.Loaded as table-loaded
 use Rattle.printed.specs.Input.{tooLong, inputOutcome, inputValues, inputCare}
-use Rattle.printed.specs.inner.BuiltInput.{read, isRead}
+use Rattle.printed.specs.BuiltInput.{read, isRead}
 
 -- after a load that succeeds, the order is the file's, and a table is held
 

@@ -3,7 +3,7 @@
 use mathlib.Core.Path.{_≡_, sym, subst}
 use mathlib.Core.Bool.{true, not, _&&_}
 use mathlib.Core.List.{List, _++_}
-use Prim.Native.Nat.{ℕ, _+_, _*_, _^_, _≤_, _<_}
+use Prim.Native.Nat.{ℕ, _*_, _^_, _≤_, _<_}
 use native.Mathlib.Omega.{arith}
 use lib.Dec.{T, leb}
 use lib.ListN.{length, getD, drop}
@@ -33,7 +33,7 @@ use Rattle.text.specs.Text.{networkText}
 use Rattle.printed.specs.Input.{inputValues, inputCare}
 use Rattle.printed.specs.Built.{refused-word, refusedLine}
 use Rattle.printed.specs.Output.{textSize}
-use Rattle.printed.specs.inner.BuiltInput.{read, isRead, builtOutcome, builtRoots, builtCells}
+use Rattle.printed.specs.BuiltInput.{read, isRead, builtOutcome, builtRoots, builtCells}
 use Rattle.printed.specs.inner.Printed.{outcomeText, printedText}
 use Rattle.printed.proofs.SmallNumbers.{cell-small, root-small}
 use Rattle.printed.proofs.TextLength.{spaced-two, line-few, network-fits}

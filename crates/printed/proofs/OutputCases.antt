@@ -14,7 +14,7 @@ use Rattle.text.specs.Written.{Written}
 use Rattle.text.proofs.Writing.{written-as}
 use Rattle.printed.specs.Input.{inputCare}
 use Rattle.printed.specs.Built.{refused-word, refusedLine}
-use Rattle.printed.specs.inner.BuiltInput.{builtOutcome, builtRoots, builtCells}
+use Rattle.printed.specs.BuiltInput.{builtOutcome, builtRoots, builtCells}
 use Rattle.printed.specs.inner.Printed.{outcomeText, printedText}
 
 pub written-refusal : {l m : List ℕ} {i j : ℕ} (a : Answer) (x : ℕ) → x ≡ number a → Written l m i j (line refused-word x)

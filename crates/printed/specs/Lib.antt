@@ -1,5 +1,5 @@
 pub mod Input
 pub mod Built
+pub mod BuiltInput
 pub mod Output
-pub mod NetworkFile
 pub mod inner

@@ -1,3 +1,1 @@
-pub mod BuiltInput
 pub mod Printed
-pub mod Filed

@@ -1,15 +1,19 @@
 // The network of a program's input: the table read, and built in the file's order.
 use crate::input::load_input;
+use diagram::NODES;
 use network::build::build;
 use table::Outcome;
 use table::load::unloaded;
 use table::numbers::is_done;
 ghost use mathlib.Core.Path.{_≡_};
 ghost use Rattle.printed.specs.Input.{inputValues, inputCare};
-ghost use Rattle.printed.specs.inner.BuiltInput.{builtOutcome, builtWork, builtRoots, builtCells};
+ghost use Rattle.printed.specs.BuiltInput.{builtOutcome, builtWork, builtRoots, builtCells};
+
+// The numbers of the cells that any table needs.
+pub const CELLS: usize = 3 * NODES;
 
 // Reads the table in a program's input, and builds its network in the file's order; or gives the refusal of either.
-pub(crate) fn build_input(
+pub fn build_input(
     file: &[u8],
     values: &mut [u8],
     care: &mut [u8],

@@ -1,7 +1,7 @@
 // The whole output of the printing program: the network of the table in its input, or a refusal (document 01, section 8).
+use crate::built::CELLS;
 use crate::built::build_input;
 use crate::refusal::refusal;
-use diagram::NODES;
 use fill::WORK;
 use lent::ROOTS;
 use table::Outcome;
@@ -18,12 +18,10 @@ ghost use Rattle.text.specs.Written.{Written};
 ghost use Rattle.printed.specs.Input.{inputValues, inputCare};
 ghost use Rattle.printed.specs.Built.{outputValues, outputCare, outputWork, outputRoots, outputCells, Whole};
 ghost use Rattle.printed.specs.Output.{outputOf};
-ghost use Rattle.printed.specs.inner.BuiltInput.{builtWork, builtRoots, builtCells};
+ghost use Rattle.printed.specs.BuiltInput.{builtWork, builtRoots, builtCells};
 ghost use Rattle.printed.specs.inner.Printed.{outcomeText, printedText};
 
-// The numbers of the cells that any table needs, and the bytes that any output fits in; specs/Output.antt has the latter, `textSize`.
-pub const CELLS: usize = 3 * NODES;
-
+// The bytes that any output fits in; specs/Output.antt has the definition, `textSize`.
 pub const TEXT: usize = 65536;
 
 // The cared bits of a table that is held.

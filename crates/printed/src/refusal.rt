@@ -6,7 +6,7 @@ ghost use Rattle.text.specs.Written.{Written};
 ghost use Rattle.printed.specs.Built.{refusedLine};
 
 // Writes the line with a refusal's number.
-pub(crate) fn refusal(out: &mut [u8], answer: Answer) -> usize
+pub fn refusal(out: &mut [u8], answer: Answer) -> usize
     ensures { λ r. ⌜ Written (now (out .entry)) (now (out .exit)) 0 r (refusedLine answer) ⌝ }
 {
     number_line(out, b"refused", number_of(answer))

@@ -9,7 +9,7 @@ use Rattle.table.specs.Calls.{caredAnswer}
 use Rattle.text.specs.Text.{networkText}
 use Rattle.printed.specs.Input.{inputCare}
 use Rattle.printed.specs.Built.{refusedLine}
-use Rattle.printed.specs.inner.BuiltInput.{builtOutcome, builtRoots, builtCells}
+use Rattle.printed.specs.BuiltInput.{builtOutcome, builtRoots, builtCells}
 
 -- the network of a build with its cared bits, or the build's refusal
 unfoldable pub outcomeText : Outcome → List ℕ → List ℕ → List ℕ → List ℕ

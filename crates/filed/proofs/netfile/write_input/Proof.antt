@@ -1,12 +1,12 @@
--- `printed::netfile::write_input` meets its contract.
+-- `filed::netfile::write_input` meets its contract.
 -- Assumes nothing.
 use mathlib.Core.Path.{_∙_}
 use borrow.Author.Needs.{needs}
 use denote.Ref.{now}
 use Rattle.text.proofs.Writing.{written-as}
-use Rattle.printed.proofs.FiledCases.{filed-of, filed-work-of}
-use Rattle.printed.proofs.netfile.write_input.Statement.{statement}
-use Rattle.printed.proofs.netfile.write_input.Tie as tie
+use Rattle.filed.proofs.FiledCases.{filed-of, filed-work-of}
+use Rattle.filed.proofs.netfile.write_input.Statement.{statement}
+use Rattle.filed.proofs.netfile.write_input.Tie as tie
 
 build-input-requires : tie.Need-build-input-requires
 build-input-requires c κs = search needs

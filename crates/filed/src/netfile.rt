@@ -1,7 +1,4 @@
 // The network file of the table in a program's input, or a refusal (document 02, 2.2).
-use crate::built::build_input;
-use crate::output::CELLS;
-use crate::refusal::refusal;
 use block::BLOCK;
 use cellfile::BLOCK_CELLS;
 use cellfile::FILE;
@@ -9,6 +6,9 @@ use cellfile::write::write_cells;
 use diagram::NODES;
 use fill::WORK;
 use lent::ROOTS;
+use printed::built::CELLS;
+use printed::built::build_input;
+use printed::refusal::refusal;
 use table::Outcome;
 use table::PLANE;
 use table::State;
@@ -19,11 +19,11 @@ ghost use Rattle.diagram.specs.Bound.{mostNodes};
 ghost use Rattle.cellfile.specs.File.{cellBlocks};
 ghost use Rattle.cellfile.specs.Write.{writeWork};
 ghost use Rattle.text.specs.Written.{Written};
 ghost use Rattle.printed.specs.Input.{inputValues, inputCare};
 ghost use Rattle.printed.specs.Built.{outputValues, outputCare, outputWork, outputRoots, outputCells, Whole};
-ghost use Rattle.printed.specs.NetworkFile.{networkOutputOf};
-ghost use Rattle.printed.specs.inner.BuiltInput.{builtRoots, builtCells};
-ghost use Rattle.printed.specs.inner.Filed.{heldFile, outcomeFile, outcomeWork, filedText, filedWork};
+ghost use Rattle.printed.specs.BuiltInput.{builtRoots, builtCells};
+ghost use Rattle.filed.specs.NetworkFile.{networkOutputOf};
+ghost use Rattle.filed.specs.inner.Filed.{heldFile, outcomeFile, outcomeWork, filedText, filedWork};
 
 // The blocks of the network file of so many cells, its heading among them; past the most cells there can be, those of the longest file.
 fn file_blocks(count: usize) -> usize

@@ -17,12 +17,12 @@ use Rattle.cellfile.specs.Write.{writeAnswer, writeWork, writtenFile}
 use Rattle.cellfile.proofs.Writing.WriteCall.{network-passed, file-fits}
 use Rattle.text.specs.Written.{Written}
 use Rattle.text.proofs.Writing.{written-as}
 use Rattle.printed.specs.Built.{refusedLine, Whole}
-use Rattle.printed.specs.NetworkFile.{networkFileSize, networkFile}
-use Rattle.printed.specs.inner.BuiltInput.{builtOutcome, builtWork, builtRoots, builtCells}
-use Rattle.printed.specs.inner.Filed.{heldFile, outcomeFile, outcomeWork, filedText, filedWork}
-use Rattle.printed.proofs.FileBytes.{file-length}
+use Rattle.printed.specs.BuiltInput.{builtOutcome, builtWork, builtRoots, builtCells}
 use Rattle.printed.proofs.WholeTexts.{written-text}
+use Rattle.filed.specs.NetworkFile.{networkFileSize, networkFile}
+use Rattle.filed.specs.inner.Filed.{heldFile, outcomeFile, outcomeWork, filedText, filedWork}
+use Rattle.filed.proofs.FileBytes.{file-length}
 
 -- the blocks of so many cells, by whether there can be more
 

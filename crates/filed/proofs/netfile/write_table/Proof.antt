@@ -1,4 +1,4 @@
--- `printed::netfile::write_table` meets its contract.
+-- `filed::netfile::write_table` meets its contract.
 -- Assumes nothing.
 use mathlib.Core.Path.{sym, _∙_}
 use native.Mathlib.Omega.{arith}
@@ -6,10 +6,10 @@ use borrow.Author.Needs.{needs}
 use denote.Ref.{now}
 use Rattle.lent.proofs.Sizes.{roots-size}
 use Rattle.cellfile.proofs.Format.FileSizes.{file-size}
 use Rattle.printed.proofs.Sizes.{plane-size, work-size}
-use Rattle.printed.proofs.FiledOutput.{all-left}
-use Rattle.printed.proofs.netfile.write_table.Statement.{statement}
-use Rattle.printed.proofs.netfile.write_table.Tie as tie
+use Rattle.filed.proofs.FiledOutput.{all-left}
+use Rattle.filed.proofs.netfile.write_table.Statement.{statement}
+use Rattle.filed.proofs.netfile.write_table.Tie as tie
 
 write-input-requires : tie.Need-write-input-requires
 write-input-requires c κs = search needs

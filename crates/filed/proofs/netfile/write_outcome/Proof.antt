@@ -1,12 +1,12 @@
--- `printed::netfile::write_outcome` meets its contract.
+-- `filed::netfile::write_outcome` meets its contract.
 -- Assumes nothing.
 use mathlib.Core.Path.{sym, _∙_}
 use borrow.Author.Needs.{needs}
 use borrow.Author.Tests.{not-true, not-false}
 use denote.Ref.{now}
-use Rattle.printed.proofs.FiledCases.{filed-unbuilt, filed-built}
-use Rattle.printed.proofs.netfile.write_outcome.Statement.{statement}
-use Rattle.printed.proofs.netfile.write_outcome.Tie as tie
+use Rattle.filed.proofs.FiledCases.{filed-unbuilt, filed-built}
+use Rattle.filed.proofs.netfile.write_outcome.Statement.{statement}
+use Rattle.filed.proofs.netfile.write_outcome.Tie as tie
 
 is-done-requires : tie.Need-is-done-requires
 is-done-requires c κs = search needs

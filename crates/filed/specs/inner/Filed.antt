@@ -7,9 +7,9 @@ use Rattle.table.specs.declared.Outcome.{Outcome}
 use Rattle.table.specs.declared.State.{State}
 use Rattle.table.specs.Answer.{done}
 use Rattle.cellfile.specs.Write.{writeAnswer, writeWork}
 use Rattle.printed.specs.Built.{refusedLine}
-use Rattle.printed.specs.NetworkFile.{networkFile}
-use Rattle.printed.specs.inner.BuiltInput.{builtOutcome, builtWork, builtRoots, builtCells}
+use Rattle.printed.specs.BuiltInput.{builtOutcome, builtWork, builtRoots, builtCells}
+use Rattle.filed.specs.NetworkFile.{networkFile}
 
 -- a held network's file, or the writer's refusal
 unfoldable pub heldFile : State → List ℕ → List ℕ → List ℕ → List ℕ → List ℕ

@@ -18,7 +18,7 @@ use Rattle.block.specs.Sealed.{headed, sealed}
 use Rattle.table.specs.declared.State.{State}
 use Rattle.cellfile.specs.File.{countAt, rootsAt, blockNumbers, carriedNumbers, cellBlocks}
 use Rattle.cellfile.specs.Write.{fileSize, headingByte, cellsByte, blockContent, fileByte}
-use Rattle.printed.specs.NetworkFile.{networkFileSize, networkFile}
+use Rattle.filed.specs.NetworkFile.{networkFileSize, networkFile}
 
 -- a block has its content from byte 4 on
 headed-same : (kind k : ℕ) (f g : ℕ → ℕ) → ((i : ℕ) → contentAt ≤ i → f i ≡ g i) → (i : ℕ) → headed kind k f i ≡ headed kind k g i

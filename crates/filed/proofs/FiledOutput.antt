@@ -39,14 +39,14 @@ use Rattle.printed.specs.Built.{
   outputCells,
   Whole,
 }
-use Rattle.printed.specs.NetworkFile.{networkFile, networkFileOf, networkOutputOf}
-use Rattle.printed.specs.inner.BuiltInput.{builtOutcome}
-use Rattle.printed.specs.inner.Filed.{heldFile, outcomeFile, outcomeWork, filedText, filedWork}
+use Rattle.printed.specs.BuiltInput.{builtOutcome}
 use Rattle.printed.proofs.LoadedInput.{loaded-held}
 use Rattle.printed.proofs.BuiltFile as built
-use Rattle.printed.proofs.BuiltCanonical.{answer-built}
-use Rattle.printed.proofs.FileBytes.{file-same, file-length, file-room}
 use Rattle.printed.proofs.NeverCut.{refused-few}
+use Rattle.filed.specs.NetworkFile.{networkFile, networkFileOf, networkOutputOf}
+use Rattle.filed.specs.inner.Filed.{heldFile, outcomeFile, outcomeWork, filedText, filedWork}
+use Rattle.filed.proofs.BuiltCanonical.{answer-built}
+use Rattle.filed.proofs.FileBytes.{file-same, file-length, file-room}
 
 -- an accepted file
 module _ (file : List ℕ) (accepted : done (fileAnswer file) ≡ true) where

@@ -1,13 +1,13 @@
--- `printed::netfile::write_held` meets its contract.
+-- `filed::netfile::write_held` meets its contract.
 -- Assumes nothing.
 use mathlib.Core.Path.{sym, ap, _∙_}
 use borrow.Author.Needs.{needs}
 use borrow.Author.Tests.{not-true, not-false}
 use denote.Ref.{now}
 use Rattle.table.specs.Answer.{done}
-use Rattle.printed.proofs.FiledCases.{blocks-small, written-file, written-unfiled}
-use Rattle.printed.proofs.netfile.write_held.Statement.{statement}
-use Rattle.printed.proofs.netfile.write_held.Tie as tie
+use Rattle.filed.proofs.FiledCases.{blocks-small, written-file, written-unfiled}
+use Rattle.filed.proofs.netfile.write_held.Statement.{statement}
+use Rattle.filed.proofs.netfile.write_held.Tie as tie
 
 write-cells-requires : tie.Need-write-cells-requires
 write-cells-requires c κs = search needs

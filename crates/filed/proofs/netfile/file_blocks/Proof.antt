@@ -1,10 +1,10 @@
--- `printed::netfile::file_blocks` meets its contract.
+-- `filed::netfile::file_blocks` meets its contract.
 -- Assumes nothing.
 use native.Mathlib.Omega.{arith}
 use borrow.Author.Needs.{needs}
-use Rattle.printed.proofs.FiledCases.{blocks-few, blocks-most}
-use Rattle.printed.proofs.netfile.file_blocks.Statement.{statement}
-use Rattle.printed.proofs.netfile.file_blocks.Tie as tie
+use Rattle.filed.proofs.FiledCases.{blocks-few, blocks-most}
+use Rattle.filed.proofs.netfile.file_blocks.Statement.{statement}
+use Rattle.filed.proofs.netfile.file_blocks.Tie as tie
 
 returns : tie.Need-returns
 returns c = blocks-most (c .before .args .count) (omega arith)

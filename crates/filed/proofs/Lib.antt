@@ -1,0 +1,4 @@
+pub mod BuiltCanonical
+pub mod FileBytes
+pub mod FiledCases
+pub mod FiledOutput
