@@ -21,11 +21,12 @@ use Rattle.table.specs.declared.Stage.{Stage}
 use Rattle.table.specs.declared.State.{State}
 use Rattle.table.specs.Answer.{unless, done}
 use Rattle.table.specs.State.{stageOf, isNothing}
+use Rattle.table.specs.Stream.{tableOf}
 use Rattle.table.specs.Calls.{planeSize}
 use Rattle.table.proofs.Held.{held-heading, few-bits, stage-good}
 use Rattle.table.proofs.Over.{length-over, plane-size}
 use Rattle.table.proofs.PlaneBits.{packed-plane}
-use Rattle.rowlog.specs.Log.{mostRecords, recordsOf, seen, logAnswer, logOutcome, loggedByte, logCounts, logCare}
+use Rattle.rowlog.specs.Log.{mostRecords, recordsOf, seen, logAnswer, logOutcome, loggedByte, logCounts, logCare, loggedTable}
 use Rattle.rowlog.specs.Sequence.{Logged, accepted, logged}
 use Rattle.rowlog.proofs.Answered.{Passed, passed, log-good}
 use Rattle.rowlog.proofs.LogThen.{kept, counted, cared, counts-then, care-then, records-then, counts-turned, care-turned}
@@ -57,6 +58,19 @@ care-logged s rows least counts care t j row h k =
     ap (λ (after : Logged). streamBit (after .care) x) (left least rows (record { state = s; counts = counts; care = care }) t)
     ∙ packed-plane (λ y. ltb y (s .m * size) && leb least (seen rows counts (y % size))) care x (omega (arith, plane-size))
     ∙ ap₂ _&&_ (lt-ltb x (s .m * size) l) (ap (λ (y : ℕ). leb least (seen rows counts y)) (low j (s .n) k))
+
+-- what a log that is done leaves is its table, at every row of every output, whatever values are lent
+
+module _ (s : State) (rows : List ℕ) (least : ℕ) (counts care : List ℕ) (t : T (done (logAnswer s rows counts care))) where
+  pub state-logged : logOutcome s rows counts care .state ≡ kept s
+  state-logged = ap (λ (after : Logged). after .state) (left least rows (record { state = s; counts = counts; care = care }) t)
+
+  pub row-logged : (values : List ℕ) (j row : ℕ) → j < s .m → row < 2 ^ s .n
+      → loggedTable s values rows least counts .row j row ≡ tableOf (s .n) (s .m) values (logCare s rows least counts care) .row j row
+  row-logged values j row h k = λ i. record {
+    value = streamBit values (j * 2 ^ s .n + row);
+    care = sym (care-logged s rows least counts care t j row h k) i;
+  }
 
 -- the test of the rows, and the answer from that test on
 

@@ -7,7 +7,8 @@ use Prim.Native.Nat.{ℕ, _+_, _*_, _%_, _^_}
 use lib.Dec.{eqb, ltb, leb}
 use lib.ListN.{length, getD}
 use Rattle.diagram.specs.Lists.{digit, all}
-use Rattle.block.specs.Bits.{packed, sumBelow}
+use Rattle.diagram.specs.Table.{Table}
+use Rattle.block.specs.Bits.{packed, streamBit, sumBelow}
 use Rattle.table.specs.declared.Answer.{Answer}
 use Rattle.table.specs.declared.Answer.the-variants.{Done, ShortBuffer, NoTable, NoRow, TooManyRecords}
 use Rattle.table.specs.declared.Outcome.{Outcome}
@@ -62,3 +63,12 @@ loggedByte s rows least counts i =
 unfoldable pub logCare : State → List ℕ → ℕ → List ℕ → List ℕ → List ℕ
 logCare s rows least counts care =
     cond (done (logAnswer s rows counts care)) (over (loggedByte s rows least counts) planeSize care) care
+
+-- 'the table under the new care', of any values lent: a row is cared at every output where it is seen at least r times
+abbrev pub loggedTable : State → List ℕ → List ℕ → ℕ → List ℕ → Table
+loggedTable s values rows least counts =
+    record {
+      n = s .n;
+      m = s .m;
+      row = λ j row. record { value = streamBit values (j * 2 ^ s .n + row); care = leb least (seen rows counts row) };
+    }

@@ -8,13 +8,14 @@ use native.Mathlib.Omega.{arith}
 use Rattle.diagram.specs.Table.{Table, cost}
 use Rattle.diagram.specs.Sift.{Pass, allowed, next, pass}
 use Rattle.diagram.specs.Demands.{SiftedLeast, orderAfter, TurnsLeast}
-use Rattle.diagram.proofs.Bools.{to-T, absurd-T}
+use Rattle.diagram.proofs.Bools.{of-T, to-T, absurd-T}
 use Rattle.diagram.proofs.Pass.{turns-least, limits, allowed-le, pass-going, pass-sifted, pass-tried}
 use Rattle.table.specs.declared.Answer.the-variants.{Done, ShortBuffer, NoTable}
 use Rattle.table.specs.declared.Outcome.{Outcome}
 use Rattle.table.specs.declared.State.{State}
 use Rattle.table.specs.Answer.{done}
 use Rattle.table.specs.State.{orderOf, stageOf, isNothing, reorderedState}
+use Rattle.table.proofs.Accepted.{unless-done}
 use Rattle.table.proofs.Held.{held-heading, heading-order}
 use Rattle.fill.specs.Work.{zeroWork}
 use Rattle.fill.specs.Calls.{heldTable, enough}
@@ -91,3 +92,12 @@ module _ (s : State) (limit : ℕ) (values care work : List ℕ) where
         let same : record { answer = Done (p .tried); state = left } ≡ passedOutcome = λ i. record { answer = Done (c i); state = q i } in
         subst (λ (r : Outcome). Passes s limit values care work r after) (sym same)
         (subst (λ (w : List ℕ). Passes s limit values care work passedOutcome w) (sym z) pass-whole)
+
+  -- a pass that is done, as it is defined
+  pub pass-demand : done (passOutcome s limit values care work .answer) ≡ true
+      → PassDemand s limit values care (passOutcome s limit values care work)
+  unfolding passAnswer passOutcome
+  pass-demand d =
+      let a = unless-done (enough values care work) ShortBuffer _ refl (to-T d) in
+      let b = unless-done (not (isNothing (stageOf s))) NoTable (Done (passOf s limit values care .tried)) refl (a .1) in
+      subst (PassDemand s limit values care) (pass-whole (of-T (a .0)) (of-T (b .0)) .0) (demand (of-T (a .0)) (of-T (b .0)))

@@ -5,18 +5,20 @@ use mathlib.Core.Bool.{true, false, not}
 use mathlib.Core.List.{List, _++_}
 use Prim.Native.Nat.{ℕ, _≤_, _<_}
 use borrow.Author.Tests.{lt-ltb, le-ltb}
+use lib.Dec.{T, ltb, ltb→lt}
 use lib.ListN.{drop}
 use Rattle.diagram.specs.Order.{moved}
 use Rattle.diagram.specs.Table.{Table, cost}
 use Rattle.diagram.specs.Sift.{sift}
 use Rattle.diagram.specs.Demands.{SiftedLeast}
-use Rattle.diagram.proofs.Bools.{to-T, absurd-T}
+use Rattle.diagram.proofs.Bools.{of-T, to-T, absurd-T}
 use Rattle.diagram.proofs.Sift.{sift-order, sifted}
 use Rattle.table.specs.declared.Answer.the-variants.{Done, NoSuch, ShortBuffer, NoTable}
 use Rattle.table.specs.declared.Outcome.{Outcome}
 use Rattle.table.specs.declared.State.{State}
-use Rattle.table.specs.Answer.{done}
+use Rattle.table.specs.Answer.{done, value}
 use Rattle.table.specs.State.{orderOf, stageOf, isNothing, reorderedState}
+use Rattle.table.proofs.Accepted.{unless-done}
 use Rattle.table.proofs.Held.{held-heading, heading-order}
 use Rattle.fill.specs.Work.{zeroWork}
 use Rattle.fill.specs.Calls.{heldTable, enough}
@@ -91,3 +93,26 @@ module _ (s : State) (v : ℕ) (values care work : List ℕ) where
             λ i. record { answer = Done (best-cost i); state = q i } in
             subst (λ (r : Outcome). Sifts s v values care work r after) (sym same)
             (subst (λ (w : List ℕ). Sifts s v values care work siftedOutcome w) (sym z) sift-whole)
+
+  -- a sift that is done, as it is defined: a table is held, v is one of its variables, the order left is the one that sifting leaves, and
+  -- the value answered is its cost
+  pub record SiftDone : Type 0 where
+    pub held : T (not (isNothing (stageOf s)))
+    pub known : v < s .n
+    pub left : orderOf (siftOutcome s v values care work .state) ≡ siftedOrder s v values care
+    pub answered : value (siftOutcome s v values care work .answer) ≡ cost (heldTable s values care) (siftedOrder s v values care)
+
+  pub sift-is-done : done (siftOutcome s v values care work .answer) ≡ true → SiftDone
+  unfolding siftAnswer siftOutcome siftedOutcome
+  sift-is-done d =
+      let a = unless-done (enough values care work) ShortBuffer _ refl (to-T d) in
+      let b = unless-done (not (isNothing (stageOf s))) NoTable _ refl (a .1) in
+      let c = unless-done (ltb v (s .n)) NoSuch (Done (cost (heldTable s values care) (siftedOrder s v values care))) refl (b .1) in
+      let l = ltb→lt v (s .n) (c .0) in
+      let same = sift-whole (of-T (a .0)) (of-T (b .0)) l .0 in
+      record {
+        held = b .0;
+        known = l;
+        left = ap (λ (r : Outcome). orderOf (r .state)) (sym same) ∙ order-left (of-T (a .0)) (of-T (b .0)) l;
+        answered = ap (λ (r : Outcome). value (r .answer)) (sym same);
+      }

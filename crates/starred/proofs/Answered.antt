@@ -1,6 +1,6 @@
 -- What the calls answer and leave where a table is held and the lent slices are long enough.
 -- Assumes nothing.
-use mathlib.Core.Path.{_≡_, refl}
+use mathlib.Core.Path.{_≡_, ap}
 use mathlib.Core.Bool.{Bool, true, false, cond}
 use mathlib.Core.List.{List, _++_}
 use Prim.Native.Nat.{ℕ, _*_, _<_}
@@ -8,18 +8,17 @@ use borrow.Author.Tests.{lt-ltb}
 use lib.Dec.{T, leb}
 use lib.ListN.{getD, drop}
 use Rattle.diagram.specs.Table.{cost}
-use Rattle.diagram.proofs.Bools.{of-T, to-not}
-use Rattle.diagram.proofs.Sift.{sift-order}
+use Rattle.diagram.proofs.Bools.{of-T}
 use Rattle.table.specs.declared.Answer.the-variants.{Done, TooSmall}
 use Rattle.table.specs.declared.State.{State}
+use Rattle.table.specs.Answer.{done}
 use Rattle.table.specs.State.{orderOf, stageOf, isNothing}
 use Rattle.table.specs.Calls.{over}
-use Rattle.table.proofs.Held.{ordered}
 use Rattle.fill.specs.Calls.{heldTable, enough, countAnswer}
 use Rattle.lent.specs.Lent.{numbersOf, rootsSize}
 use Rattle.network.specs.Build.{heldNetwork, wanted, capacity, longEnough, buildAnswer, buildOutcome, buildRoots, buildCells}
 use Rattle.sift.specs.Calls.{siftedOrder, siftAnswer, siftOutcome}
-use Rattle.sift.proofs.ReorderedHeading.{take-order}
+use Rattle.sift.proofs.SiftOutcome.{sift-is-done}
 
 module _ (s : State) (values care work : List ℕ) (long : T (enough values care work)) (staged : isNothing (stageOf s) ≡ false) where
   is-long : enough values care work ≡ true
@@ -39,11 +38,7 @@ module _ (s : State) (values care work : List ℕ) (long : T (enough values care
     sifted-answer = sift-answered
 
     pub sifted-order : orderOf (siftOutcome s v values care work .state) ≡ siftedOrder s v values care
-    unfolding siftOutcome
-    sifted-order =
-        rw sift-answered
-        (take-order (s .n) (siftedOrder s v values care) (s .order) (siftedOrder s v values care ++ drop (s .n) (s .order))
-        (sift-order (heldTable s values care) v (orderOf s) (ordered s (to-not staged)) h) refl)
+    sifted-order = sift-is-done s v values care work (ap done sifted-answer) .left
 
 module _ (s : State) (values care work roots cells : List ℕ) (long : T (longEnough values care work roots))
     (staged : isNothing (stageOf s) ≡ false) where
