@@ -1,10 +1,11 @@
 """The calls of the comparison, in chunks.
 
 A chunk is made from the seed and its number alone, so that one can be run
-again by itself. The first chunks are the fixed ones, the others are random
-scenes: single calls, chains of calls on the same state and buffers, files,
-boards, diagrams, halves that agree, logs, swaps in the cells, reports of moves and
-larger tables.
+again by itself. The first chunks are the fixed ones; then comes one for each group
+of the cases, the scripts of which are played; the others are random scenes:
+single calls, chains of calls on the same state and buffers, files, boards,
+diagrams, halves that agree, logs, swaps in the cells, reports of moves and larger
+tables.
 
 A chunk is a generator. What a call is lent is changed by that call before the
 next one is made, so that a chain meets the leftovers of its own calls.
@@ -20,17 +21,21 @@ import files
 import fill_tables
 import fixed_calls
 import gains
+import groups
 import lending
 import library
 import logs
 import networks
 import reference
 import refusals
+import scripts
 import swaps
 from library import Call
 
 CALLS_IN_CHUNK = 100
 FIXED_CHUNKS = len(fixed_calls.CHUNKS)
+# The first of the random chunks.
+RANDOM_CHUNKS = FIXED_CHUNKS + len(groups.groups(0))
 
 
 def small_size(rng):
@@ -478,9 +483,21 @@ def random_calls(rng):
         yield from rng.choices(scenes, shares)[0](rng)
 
 
-def chunk_count(calls):
-    """So many chunks that at least `calls` calls are made."""
-    return FIXED_CHUNKS + -(-calls // CALLS_IN_CHUNK)
+def script_calls(rng, cases_of_group):
+    """The calls of a group's scripts, one script after the other."""
+    for case in cases_of_group:
+        yield from scripts.calls_of(rng, case.file, case.command)
+
+
+PARTS = ("fixed", "scripts", "random")
+
+
+def chunks_of(part, calls):
+    """The chunks of one part, or of all for None: at least `calls` random calls."""
+    ends = 0, FIXED_CHUNKS, RANDOM_CHUNKS, RANDOM_CHUNKS + -(-calls // CALLS_IN_CHUNK)
+    if part is None:
+        return range(ends[-1])
+    return range(*ends[PARTS.index(part) :][:2])
 
 
 def chunk_calls(seed, number):
@@ -488,4 +505,7 @@ def chunk_calls(seed, number):
     rng = random.Random(f"{seed} {number}")
     if number < FIXED_CHUNKS:
         return fixed_calls.CHUNKS[number](rng)
+    if number < RANDOM_CHUNKS:
+        make = list(groups.groups(seed).values())[number - FIXED_CHUNKS]
+        return script_calls(rng, make())
     return itertools.islice(random_calls(rng), CALLS_IN_CHUNK)

@@ -1,10 +1,11 @@
-"""Compares the programs `print`, `desk` and `cells` with the reference.
+"""Compares the programs `print` and `cells` with the reference.
 
-    python3 tests/compare.py --print PATH --desk PATH --cells PATH [--seed S] [--cases N]
+    python3 tests/compare.py --print PATH --cells PATH [--seed S] [--cases N]
 
-Each case is one run of a program on one file, and its whole output must be
-the expected one. On a difference the seed, the command and both texts are
-shown and the exit status is 1; a group of cases ends at its first difference.
+Each run of a program on one file must write what is expected, byte for byte. On
+a difference the seed, the program and both texts are shown and the exit status
+is 1; a group of cases ends at its first difference. The scripts of the cases
+are compared by compare_calls.py.
 `--only NAME` runs one group again; `--keep FILE` writes the file of the first
 difference there.
 """
@@ -12,7 +13,6 @@ difference there.
 import argparse
 import multiprocessing
 import os
-import shlex
 import subprocess
 import sys
 from collections import namedtuple
@@ -31,7 +31,7 @@ LINES_ABOVE = 10
 # A Rust program that panics ends with this status.
 PANIC_STATUS = 101
 
-Difference = namedtuple("Difference", "group case wanted printed")
+Difference = namedtuple("Difference", "group program file wanted printed")
 
 
 def as_text(output):
@@ -43,20 +43,13 @@ def as_text(output):
     return "".join(f"{at:5}: {line}\n" for at, line in zip(starts, lines))
 
 
-def expected_text(case):
-    return as_text(expected.output_of(case.program, case.table, case.words))
-
-
-def printed_text(path, case):
+def printed_text(path, file):
     """What the program prints; a crash is told as a text no file gives.
 
     The texts don't rule the exit status, so it isn't compared otherwise.
     """
     try:
-        run = subprocess.run(
-            [path] + case.words, input=case.table, capture_output=True,
-            timeout=SECONDS_PER_RUN,
-        )
+        run = subprocess.run([path], input=file, capture_output=True, timeout=SECONDS_PER_RUN)
     except subprocess.TimeoutExpired:
         return f"no end within {SECONDS_PER_RUN} seconds\n"
     text = as_text(run.stdout)
@@ -67,20 +60,16 @@ def printed_text(path, case):
 
 
 def run_group(job):
-    """In a worker: how many cases were compared, and the first difference."""
+    """In a worker: how many runs were compared, and the first difference."""
     name, seed, random_count, paths = job
     made = groups.groups(seed, random_count)[name]()
-    for done, case in enumerate(made, 1):
-        wanted = expected_text(case)
-        printed = printed_text(paths[case.program], case)
+    runs = [(program, case.file) for case in made for program in case.programs]
+    for done, (program, file) in enumerate(runs, 1):
+        wanted = as_text(expected.output_of(program, file))
+        printed = printed_text(paths[program], file)
         if printed != wanted:
-            return done, Difference(name, case, wanted, printed)
-    return len(made), None
-
-
-def readable(text):
-    """Printable even where a word isn't text at all."""
-    return text.encode("utf-8", "backslashreplace").decode()
+            return done, Difference(name, program, file, wanted, printed)
+    return len(runs), None
 
 
 def shown(text, differing):
@@ -90,7 +79,7 @@ def shown(text, differing):
         start = max(0, differing - 1 - LINES_ABOVE)
     part = lines[start : start + MOST_LINES_SHOWN]
     heading = f"  lines {start + 1} to {start + len(part)} of {len(lines)}:"
-    return readable("\n".join([heading] + ["    " + line for line in part]))
+    return "\n".join([heading] + ["    " + line for line in part])
 
 
 def first_differing_line(wanted, printed):
@@ -102,12 +91,10 @@ def first_differing_line(wanted, printed):
 
 
 def show(difference, seed, paths):
-    case = difference.case
-    command = shlex.join([paths[case.program]] + case.words)
-    head = " ".join(str(byte) for byte in case.table[4:16])
+    head = " ".join(str(byte) for byte in difference.file[4:16])
     print(f"difference: seed {seed}, group {difference.group!r}")
-    print(f"command: {readable(command)}")
-    print(f"file: {len(case.table)} bytes, from byte 4: {head}")
+    print(f"program: {paths[difference.program]}")
+    print(f"file: {len(difference.file)} bytes, from byte 4: {head}")
     differing = first_differing_line(difference.wanted, difference.printed)
     print(f"first differing line: {differing}")
     print(f"expected:\n{shown(difference.wanted, differing)}")
@@ -115,7 +102,7 @@ def show(difference, seed, paths):
 
 
 def compared(jobs):
-    """Runs all groups; answers the number of cases and the differences.
+    """Runs all groups; answers the number of runs and the differences.
 
     The shortest come first, since they are the easiest to follow.
     """
@@ -125,17 +112,16 @@ def compared(jobs):
             total += done
             if difference:
                 differences.append(difference)
-    differences.sort(key=lambda each: (len(each.wanted), len(each.case.table), each.group))
+    differences.sort(key=lambda each: (len(each.wanted), len(each.file), each.group))
     return total, differences
 
 
 def arguments():
     parser = argparse.ArgumentParser(description=__doc__.splitlines()[0])
     parser.add_argument("--print", required=True, dest="print_path")
-    parser.add_argument("--desk", required=True, dest="desk_path")
     parser.add_argument("--cells", required=True, dest="cells_path")
     parser.add_argument("--seed", type=int, default=1)
-    parser.add_argument("--cases", type=int, default=1000, help="random tables")
+    parser.add_argument("--cases", type=int, default=groups.RANDOM_TABLES, help="random tables")
     parser.add_argument("--only", help="the one group of cases to run")
     parser.add_argument("--keep", help="where to write the first difference's file")
     return parser.parse_args()
@@ -145,7 +131,6 @@ def main():
     given = arguments()
     paths = {
         "print": os.path.abspath(given.print_path),
-        "desk": os.path.abspath(given.desk_path),
         "cells": os.path.abspath(given.cells_path),
     }
     for path in paths.values():
@@ -161,7 +146,7 @@ def main():
         show(difference, given.seed, paths)
     if differences and given.keep:
         with open(given.keep, "wb") as kept:
-            kept.write(differences[0].case.table)
+            kept.write(differences[0].file)
     print(f"compared {total} cases, {len(differences)} differences")
     sys.exit(1 if differences else 0)
 

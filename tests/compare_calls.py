@@ -9,7 +9,7 @@ is shown with its seed and chunk, and the exit status is 1; a chunk ends at its
 first difference. So it is too if a number that a call can give never came up, or an
 effect that it can have. Some calls have a law besides, which is asked after them.
 `--only CHUNK` runs one chunk again; `--first` ends at the first difference;
-`--skip-fixed` leaves out the chunks of fixed calls.
+`--part fixed`, `--part scripts` and `--part random` make one part of the calls alone.
 """
 
 import argparse
@@ -21,20 +21,16 @@ from collections import Counter, namedtuple
 from concurrent.futures import ProcessPoolExecutor
 from concurrent.futures.process import BrokenProcessPool
 
+import by_reference
 import calls
-import cell_swap
 import gains
 import library
-import moves
-import network_files
-import reference
-import row_log
 import show_calls
 
 WORKERS = 2
 MOST_SHOWN = 3
 # A call that never ends would hold up all; the worker then ends as in a crash.
-SECONDS_IN_CHUNK = 40
+SECONDS_IN_CHUNK = 120
 
 # The numbers that the paper lets each call give.
 POSSIBLE = {
@@ -48,12 +44,6 @@ POSSIBLE = {
 # What successes of a call do to the cells, or say of them, where all of it should come up.
 CHANGES = ("more cells", "fewer cells", "as many cells")
 EFFECTS = {"swap_cells": CHANGES, "moves": CHANGES}
-
-# The calls that have a file of their own beside the reference.
-MODULES = {
-    "write_cells": network_files, "read_cells": network_files, "log_rows": row_log,
-    "swap_cells": cell_swap, "moves": moves,
-}
 
 # `calls` were compared; `given` counts (call, number) and (call, effect); `text` shows a
 # difference.
@@ -71,32 +61,10 @@ def share(array):
     begun = array
 
 
-def function_of(name):
-    """The reference has the same names, but `pass` is a word of Python."""
-    return getattr(MODULES.get(name, reference), "sift_pass" if name == "pass" else name)
-
-
-def by_reference(call, lent):
-    """The answer by the paper; `lent` is changed as the paper says."""
-    words = lent.contents["state"]
-    if lent.lengths["state"] < library.STATE_WORDS:
-        return 10, 0
-    state = library.state_from(words)
-    buffers = [name for name in library.slices_of(call.name) if name != "state"]
-    parts = {name: lent.part(name) for name in buffers}
-    given = {**parts, **call.numbers, "state": state}
-    arguments = [given[name] for name in library.arguments_of(call.name)]
-    answer = function_of(call.name)(*arguments)
-    for name, part in parts.items():
-        lent.write_part(name, part)
-    library.write_state(words, state)
-    return answer
-
-
 def wanted_answer(call, lent):
     """A reference that breaks off is told as an answer that no call gives."""
     try:
-        return by_reference(call, lent)
+        return by_reference.answer(call, lent)
     except (ArithmeticError, LookupError, TypeError, ValueError) as error:
         return "the reference broke off", repr(error)
 
@@ -170,7 +138,7 @@ def call_at(seed, chunk, index):
     for number, call in enumerate(calls.chunk_calls(seed, chunk), 1):
         if number == index:
             return call
-        by_reference(call, call.lent)
+        by_reference.answer(call, call.lent)
 
 
 def run_alone(array, job):
@@ -228,15 +196,14 @@ def arguments():
     parser.add_argument("--calls", type=int, default=100000, help="random calls")
     parser.add_argument("--only", type=int, metavar="CHUNK", help="the one chunk to run")
     parser.add_argument("--first", action="store_true", help="end at the first difference")
-    parser.add_argument("--skip-fixed", action="store_true", help="random calls alone")
+    parser.add_argument("--part", choices=calls.PARTS, help="the one part to run")
     return parser.parse_args()
 
 
 def chunks_of(given):
     if given.only is not None:
         return range(given.only, given.only + 1)
-    first = calls.FIXED_CHUNKS if given.skip_fixed else 0
-    return range(first, calls.chunk_count(given.calls))
+    return calls.chunks_of(given.part, given.calls)
 
 
 def main():
@@ -261,7 +228,8 @@ def main():
         print(text)
     numbers = sum((result.given for result in results), Counter())
     print_table(numbers)
-    wrong = [] if differences or given.only is not None else wrong_numbers(numbers)
+    whole = given.only is None and given.part is None
+    wrong = wrong_numbers(numbers) if whole and not differences else []
     for line in wrong:
         print(line)
     total = sum(result.calls for result in results)

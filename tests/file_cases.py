@@ -1,5 +1,5 @@
-"""The cases of the comparison on network files, document 02's 2.2: the desk reads and
-writes them, and the programs that take tables alone refuse them."""
+"""The cases of the comparison on network files, document 02's 2.2: read, written and put
+through scripts; the programs take tables alone and refuse them."""
 
 import random
 
@@ -8,11 +8,11 @@ import cell_files
 import expected
 import files
 import networks
-from cases import Case, desk, with_others
+import random_cases
+from cases import Case, for_all
 from cell_files import Network, network_file
 
-LOOK = "state order cells cared rows count write build cells write"
-LOOK += " swapcells 0 order cells rows count write build cells write"
+LOOK = "cared rows count write build write swapcells 0 rows count write build write"
 
 ROWS = [
     ["1"], ["0", "1"], ["0 0 0 1"], ["1 1 1 0"], ["0 0 0 1", "1 1 1 0"], ["0 1 1 0"],
@@ -44,8 +44,8 @@ def paper_cases():
     for order in ([0, 1, 2, 3], [0, 2, 1, 3]):
         network = networks.of_bits(4, 1, order, cases.bits_of(0xF888, 16))
         made.append(network_file(network))
-    looks = [each for file in made for each in with_others(desk(file, LOOK))]
-    return looks + [desk(made[-1], "write sift 1 order state write build write cells")]
+    looks = [for_all(file, LOOK) for file in made]
+    return looks + [Case(made[-1], "write sift 1 write build write")]
 
 
 def length_cases():
@@ -54,23 +54,17 @@ def length_cases():
     spoiled = files.with_stored_check(sound, 0, 26)
     lengths = (1, 2, 511, 512, 513, 1023, 1024, 1025, 1536, 13824, 14336)
     lengths += (65024, 65535, 65536, 65537, 66048, 131072)
-    made = []
-    for file in (sound, spoiled):
-        for length in lengths:
-            made += with_others(desk(file[:length].ljust(length, b"\0"), "count write"))
-    return made
+    cut = [file[:length].ljust(length, b"\0") for file in (sound, spoiled) for length in lengths]
+    return [for_all(file, "count write") for file in cut]
 
 
 def damage_cases(rng, base):
-    """Every single damage to a base to each program, and some pairs to the desk."""
+    """Every single damage to a base, to the programs too, and some pairs."""
     sound = network_file(DAMAGE_BASES[base]())
     damages = cell_files.all_damages(sound)
-    made = []
-    for damage in damages:
-        made += with_others(desk(files.damaged(sound, [damage]), "state write"))
-    for pair in rng.sample(files.pairs_of(damages), 150):
-        made.append(desk(files.damaged(sound, pair), "state"))
-    return made
+    pairs = rng.sample(files.pairs_of(damages), 150)
+    made = [for_all(files.damaged(sound, [damage]), "write") for damage in damages]
+    return made + [Case(files.damaged(sound, pair), "") for pair in pairs]
 
 
 def near_cases():
@@ -80,7 +74,7 @@ def near_cases():
     made = []
     for source in sources:
         for _, near in networks.near_networks(source):
-            made.append(desk(network_file(near), "state cells"))
+            made.append(Case(network_file(near), ""))
     return made
 
 
@@ -90,53 +84,48 @@ def board_cases():
     for count in (2158, 2159, 2160, 2184, 2185, 10668):
         alike = Network(1, 1, [0], [(0, 0, 1)] * count, networks.sixteen([2]))
         breach = networks.with_cell(alike, count, (0, 1))
-        made += [desk(network_file(network), "state") for network in (alike, breach)]
+        made += [Case(network_file(network), "") for network in (alike, breach)]
     for count in (0, 1, 3, 84, 85, 256, 65535):
-        made.append(desk(cell_files.with_count(exclusive_or_file(), count), "state cells"))
+        made.append(Case(cell_files.with_count(exclusive_or_file(), count), ""))
     return made
 
 
 def word_cases():
-    """The word `write` at every stage, and words that are none."""
+    """The word `write` at every stage, and after files that are refused."""
     commands = [
-        "write", "write write", "write 5", "write count", "read", "Write", "swap 0 write state",
-        "sift 0 write build write", "pass 4 write build write", "board 0 write build write cells",
+        "write", "write write", "write count", "swap 0 write", "sift 0 write build write",
+        "pass 4 write build write", "board 0 write build write",
         "board 1 build write board 2 build write", "eval 3 evals 0,1,2 evals 4 write",
-        "count state write", "build write swap 0 build write cells", "cared rows order write",
-        "swapcells 0 write state", "build swapcells 0 write swapcells 0 write build write",
-        "swapcells 0 rows cared count write build write cells", "swapcells 1 write",
+        "count write", "build write swap 0 build write", "cared rows write", "swapcells 0 write",
+        "build swapcells 0 write swapcells 0 write build write",
+        "swapcells 0 rows cared count write build write", "swapcells 1 write",
         "board 0 swapcells 0 write board 1 swapcells 0 write board 2 swapcells 0 write",
     ]
     table = files.table_from_rows(["0 1 1 0"])
     free = files.table_from_rows(["0 1 1 -", "- 1 - 0"], [1, 0])
     begun = (exclusive_or_file(), table, free)
-    made = [desk(file, command) for file in begun for command in commands]
+    made = [Case(file, command) for file in begun for command in commands]
     refused = files.with_byte(exclusive_or_file(), 1, 0, 4)
-    return made + [desk(refused, "nonsense"), desk(bytes([4]), "swap"), desk(b"", "write")]
+    return made + [Case(file, "write") for file in (refused, bytes([4]), b"")]
 
 
-def read_again(case):
-    """What the program `cells` writes for a table, to the desk."""
-    return desk(expected.cells_output(case.table), LOOK)
-
-
-def random_cases(rng):
-    """The network file of a random table through a random script of words."""
-    n = rng.choices(range(11), cases.SHARES)[0]
+def random_file_cases(rng):
+    """The network file of a random table through a random script."""
+    n = rng.choices(range(11), random_cases.SHARES)[0]
     m = rng.choice((1, 1, 2, 3, 4, rng.randint(1, 16) if n < 8 else 2))
     file = network_file(networks.of_table(cases.random_table(rng, n, m)))
-    words = cases.random_script(rng, file, rng.randint(1, 5) if n <= 6 else 2, sifting=n <= 6)
-    return [Case("desk", words, file)]
+    step_count = rng.randint(1, 5) if n <= 6 else 2
+    return [Case(file, random_cases.random_script(rng, file, step_count, sifting=n <= 6))]
 
 
 def large_cases(rng):
-    """Networks of ten inputs, and the widest of all."""
-    made = [read_again(cases.widest_cases(rng)[0])]
+    """Networks of ten inputs, and the widest of all as the program `cells` writes it."""
+    made = [Case(expected.cells_output(cases.widest_table(rng)), LOOK)]
     for m, density in ((16, 0.05), (16, 0.5), (3, 1)):
         care = [int(rng.random() < density) for _ in range(m << 10)]
         order = cases.random_order(rng, 10)
         table = files.table_file(10, m, order, cases.coin_bits(rng, 10, m), care)
-        made.append(desk(network_file(networks.of_table(table)), "state cells write count"))
+        made.append(Case(network_file(networks.of_table(table)), "write count"))
     return made
 
 
@@ -158,5 +147,5 @@ def groups(seed, random_count):
     for base in DAMAGE_BASES:
         seeded(f"file damage {base}", damage_cases, base)
     for i in range(random_count // TABLES_FOR_A_FILE):
-        seeded(f"file random {i}", random_cases)
+        seeded(f"file random {i}", random_file_cases)
     return made

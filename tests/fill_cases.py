@@ -5,9 +5,9 @@ import random
 
 import files
 import fill_tables
-from cases import desk, with_others
+from cases import Case, for_all
 
-LOOK = "cared count build cells rows write"
+LOOK = "cared count build rows write"
 
 
 def drawn_cases():
@@ -16,16 +16,15 @@ def drawn_cases():
     for outputs in fill_tables.BY_HAND:
         places = range(files.inputs_in(outputs[0]))
         for order in (places, places[::-1]):
-            made += with_others(desk(files.table_from_rows(outputs, order), LOOK))
+            made.append(for_all(files.table_from_rows(outputs, order), LOOK))
     return made
 
 
 def two_input_cases():
     """Every table of one output, swapped in the cells and back, and to the other order."""
     tables = [" ".join(rows) for rows in itertools.product("01-", repeat=4)]
-    command = "build cells rows swapcells 0 state cells rows count swapcells 0 cells"
-    command += " swap 0 build cells rows"
-    return [desk(files.table_from_rows([rows]), command) for rows in tables]
+    command = "build rows swapcells 0 rows count swapcells 0 swap 0 build rows"
+    return [Case(files.table_from_rows([rows]), command) for rows in tables]
 
 
 def outputs_at(n):
@@ -37,14 +36,14 @@ def size_cases(rng, n):
     """Tables in which many halves agree; the larger they are, the less is asked."""
     made = []
     for m in outputs_at(n):
-        sifting = f"sift {rng.randrange(n)} order pass {rng.choice((n, 2 * n))} order build cells"
-        command = "cared count build cells"
+        sifting = f"sift {rng.randrange(n)} pass {rng.choice((n, 2 * n))} build"
+        command = "cared count build"
         if n > 1:
-            command += f" swapcells {rng.randrange(n - 1)} order cells count"
-            command += f" swap {rng.randrange(n - 1)} build cells"
+            command += f" swapcells {rng.randrange(n - 1)} count"
+            command += f" swap {rng.randrange(n - 1)} build"
         command += f" rows {sifting}" if n < 6 else ""
-        case = desk(fill_tables.table(rng, n, m), command)
-        made += with_others(case) if n < 8 else [case]
+        make = for_all if n < 8 else Case
+        made.append(make(fill_tables.table(rng, n, m), command))
     return made
 
 

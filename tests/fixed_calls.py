@@ -128,7 +128,7 @@ def boards(rng):
 def widest(rng):
     """A table that needs all 2,159 cells: a board of one too few, and enough."""
     lent = lending.lent_for(rng, 10, 16, lending.LARGEST_BOARD)
-    lending.lend_file(rng, lent, cases.widest_cases(rng)[0].table)
+    lending.lend_file(rng, lent, cases.widest_table(rng))
     lending.lengthen(rng, lent)
     yield Call("load", {}, lent, "the widest table")
     for numbers in (lending.LARGEST_BOARD - 1, lending.LARGEST_BOARD):

@@ -306,7 +306,7 @@ def with_a_build(rng):
 
 def widest(rng):
     """All 2,159 cells, on a board just enough and on one with a number fewer."""
-    network = networks.of_table(cases.widest_cases(rng)[0].table)
+    network = networks.of_table(cases.widest_table(rng))
     for place in (0, 4, 7, 8):
         lent = lent_network(rng, network, WHOLE._replace(cells=lending.LARGEST_BOARD))
         wanted = swaps.wanted_at(lent, place)

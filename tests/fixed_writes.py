@@ -143,7 +143,7 @@ def round_trips(rng):
 
 def widest(rng):
     """All 2,159 cells, in 27 blocks; then one of the last cells turned over."""
-    network = networks.of_table(cases.widest_cases(rng)[0].table)
+    network = networks.of_table(cases.widest_table(rng))
     yield from there_and_back(rng, lent_network(rng, network), "the widest network")
     last = len(network.cells)
     near = networks.with_cell(network, last, (1, 1), (2, 0))

@@ -1,5 +1,5 @@
-"""The cases of the comparison on reports of moves, document 02's 2.8: the desk's word
-`moves`, on table files and on network files."""
+"""The cases of the comparison on reports of moves, document 02's 2.8, on table files and
+on network files."""
 
 import itertools
 import random
@@ -8,32 +8,27 @@ import cases
 import files
 import fill_tables
 import move_tables
-from cases import Case, desk
+from cases import Case
 from swap_cases import begun, read_of
 
 
 def word_cases():
     """At every stage, in turn, and with the other words between."""
     commands = [
-        "moves", "moves moves", "moves state order cells cared", "count moves count moves count",
-        "build moves state cells rows write", "moves eval 3 build moves eval 3 rows",
-        "moves sift 1 order moves sift 2 order moves build moves", "sift 4 moves swap 3 moves",
-        "moves pass 16 order moves pass 4 moves order state",
-        "swap 0 moves swap 1 moves order count", "board 0 moves build moves board 2159",
-        "build swapcells 1 moves state cells swapcells 1 moves state cells count",
+        "moves", "moves moves", "moves cared", "count moves count moves count",
+        "build moves rows write", "moves eval 3 build moves eval 3 rows",
+        "moves sift 1 moves sift 2 moves build moves", "sift 4 moves swap 3 moves",
+        "moves pass 16 moves pass 4 moves", "swap 0 moves swap 1 moves count",
+        "board 0 moves build moves", "build swapcells 1 moves swapcells 1 moves count",
         "build swapcells 0 swapcells 2 moves count build moves",
-        "board 3 build moves state board 4 build moves state",
-        "log 3,5,12 moves cared relog moves least 0 relog moves",
-        "least 2 moves log 3,3,9 moves logged", "log 16 moves log 1 moves build cells",
-        "build log 7,9 state moves state sift 0 moves order",
-        "write moves write build moves write",
-        "evals 1,2 moves build evals 1,2 moves evals 1,2", "moves 1", "moves 0",
-        "moves moves 5 count", "build moves bad", "Moves", "MOVES", "move", "moves ",
-        "move 1 2", "gains", "moves,", "moves= count",
+        "board 3 build moves board 4 build moves",
+        "log 3,5,12 moves cared relog moves least 0 relog moves", "least 2 moves log 3,3,9 moves",
+        "log 16 moves log 1 moves build", "build log 7,9 moves sift 0 moves",
+        "write moves write build moves write", "evals 1,2 moves build evals 1,2 moves evals 1,2",
     ]
-    made = [Case("desk", command.split(" "), file) for file in begun() for command in commands]
+    made = [Case(file, command) for file in begun() for command in commands]
     refused = files.with_byte(begun()[0], 1, 0, 3)
-    return made + [desk(refused, "moves"), desk(b"", "moves"), desk(bytes([4]), "moves moves")]
+    return made + [Case(file, "moves") for file in (refused, b"", bytes([4]))]
 
 
 def drawn_cases():
@@ -43,8 +38,8 @@ def drawn_cases():
         places = range(files.inputs_in(outputs[0]))
         for order in (places, places[::-1]):
             table = files.table_from_rows(outputs, order)
-            made.append(desk(table, "moves count build moves state"))
-            made.append(desk(read_of(table), "moves state count"))
+            made.append(Case(table, "moves count build moves"))
+            made.append(Case(read_of(table), "moves count"))
     return made
 
 
@@ -56,14 +51,14 @@ def order_cases():
         for outputs in (move_tables.TWO_ANDS, move_tables.EVERY_SIGN):
             table = files.table_from_rows(outputs, order)
             for sifted in range(4):
-                made.append(desk(table, f"count moves sift {sifted} order moves"))
+                made.append(Case(table, f"count moves sift {sifted} moves"))
     return made
 
 
 def two_input_cases():
     """Every table of one output, and after a swap."""
     tables = [" ".join(rows) for rows in itertools.product("01-", repeat=4)]
-    return [desk(files.table_from_rows([rows]), "moves swap 0 moves") for rows in tables]
+    return [Case(files.table_from_rows([rows]), "moves swap 0 moves") for rows in tables]
 
 
 def outputs_at(n):
@@ -76,20 +71,20 @@ def size_cases(rng, n):
     made = []
     for m in outputs_at(n):
         table = cases.random_table(rng, n, m)
-        asked = "moves" if n > 8 else "count moves build moves state moves"
-        asked += f" sift {rng.randrange(n)} moves order" if 0 < n < 8 else ""
-        made.append(desk(table, asked))
+        asked = "moves" if n > 8 else "count moves build moves moves"
+        asked += f" sift {rng.randrange(n)} moves" if 0 < n < 8 else ""
+        made.append(Case(table, asked))
         if n < 8:
-            made.append(desk(read_of(table), asked))
-            made.append(desk(fill_tables.table(rng, n, m), asked))
+            made.append(Case(read_of(table), asked))
+            made.append(Case(fill_tables.table(rng, n, m), asked))
     return made
 
 
 def in_turn(rng):
-    """Many reports at one desk, on tables and on network files."""
-    words = "moves swap 0 moves sift 2 moves build moves swapcells 0 moves pass 25 moves order"
+    """Many reports of one state, on tables and on network files."""
+    command = "moves swap 0 moves sift 2 moves build moves swapcells 0 moves pass 25 moves"
     tables = [cases.random_table(rng, 5, m) for m in (1, 2, 3, 4)]
-    return [desk(file, words) for table in tables for file in (table, read_of(table))]
+    return [Case(file, command) for table in tables for file in (table, read_of(table))]
 
 
 def large_gains():
@@ -99,7 +94,7 @@ def large_gains():
         move_tables.counter_file(8, 8, (16, 16), [1, 2, 3, 4, 5, 6, 7, 0]),
         move_tables.counter_file(10, 13, (29, 32), range(10)),
     ]
-    return [desk(table, "count moves state") for table in tables]
+    return [Case(table, "count moves") for table in tables]
 
 
 def groups(seed):

@@ -338,7 +338,7 @@ def network_of(outputs, n):
 def network(table, order):
     """The network of the table filled under the order.
 
-    Remembered, since one desk asks for the same order again and again.
+    Remembered, since the same order is asked for again and again.
     """
     return network_of(filled(table, order), table.n)
 

@@ -1,13 +1,14 @@
 """Tries the comparison of the calls on deliberate slips.
 
-    python3 tests/slips.py --library PATH [--seed S] [--skip-fixed] [--named TEXT]
+    python3 tests/slips.py --library PATH [--seed S] [--part PART] [--named TEXT]
 
 Each slip is made in a copy of reference.py, network_files.py, row_log.py, cell_swap.py
 or moves.py, in a folder of its own with the other files, and the comparison there must
 find a difference. A line says after how many calls, counted in the sequence of the chunks.
 The exit status is 1 if one slip is not found. Run by hand: when the calls of the
 comparison change.
-`--skip-fixed` leaves the fixed calls out, to see what the random ones find;
+`--part PART` makes one part of the calls alone, to see what it finds: `fixed`,
+`scripts` or `random`;
 `--named TEXT` tries those alone whose name has the text in it.
 """
 
@@ -70,7 +71,7 @@ def run_slip(slip, given):
         make_copy(folder, name, old, new)
         command = [sys.executable, f"{folder}/compare_calls.py", "--first"]
         command += ["--library", given.library, "--seed", str(given.seed)]
-        command += ["--skip-fixed"] if given.skip_fixed else []
+        command += ["--part", given.part] if given.part else []
         run = subprocess.run(command, capture_output=True, text=True)
     ended = LAST_LINE.search(run.stdout)
     if ended is None:
@@ -85,7 +86,7 @@ def arguments():
     parser = argparse.ArgumentParser(description=__doc__.splitlines()[0])
     parser.add_argument("--library", required=True, type=os.path.abspath)
     parser.add_argument("--seed", type=int, default=1)
-    parser.add_argument("--skip-fixed", action="store_true", help="random calls alone")
+    parser.add_argument("--part", help="the one part of the calls to make")
     parser.add_argument("--named", default="", metavar="TEXT", help="a part of the slips' names")
     return parser.parse_args()
 

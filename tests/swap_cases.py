@@ -1,17 +1,16 @@
-"""The cases of the comparison on swaps in the cells, document 02's 2.7: the desk's word
-`swapcells`, on table files and on network files."""
+"""The cases of the comparison on swaps in the cells, document 02's 2.7, on table files
+and on network files."""
 
 import random
 
+import by_reference
 import cases
-import expected
 import files
 import networks
-from cases import Case, desk
+import random_cases
+from cases import Case
 from cell_files import network_file
-
-LOOK = "state order cells rows"
-MOST_CELLS = cases.MOST_CELLS
+from expected import MOST_CELLS
 
 
 def two_ands(order):
@@ -42,24 +41,22 @@ def begun():
 def word_cases():
     """At every stage, in turn and back, and with the other words between."""
     commands = [
-        "swapcells 0 state order", "swapcells 3", "swapcells 4294967295", "board 0 swapcells 0",
-        "count swapcells 0 state", "build cells swapcells 1 " + LOOK + " swapcells 1 " + LOOK,
-        "build swap 0 swapcells 0 state order", "build swapcells 0 swap 0 state order build cells",
-        "build sift 1 swapcells 0 state order", "build swapcells 1 sift 1 order build cells",
-        "build pass 9 swapcells 0 state", "build swapcells 2 pass 16 order state build cells",
+        "swapcells 0", "swapcells 3", "swapcells 4294967295", "board 0 swapcells 0",
+        "count swapcells 0", "build swapcells 1 rows swapcells 1 rows", "build swap 0 swapcells 0",
+        "build swapcells 0 swap 0 build", "build sift 1 swapcells 0",
+        "build swapcells 1 sift 1 build", "build pass 9 swapcells 0",
+        "build swapcells 2 pass 16 build",
         "build swapcells 0 write swapcells 1 write swapcells 2 write count build write",
-        "build swapcells 0 swapcells 1 swapcells 2 " + LOOK + " count cared build cells",
-        "build swapcells 2 swapcells 1 swapcells 0 swapcells 0 swapcells 1 swapcells 2 " + LOOK,
-        "build swapcells 0 swapcells 2 order cells swapcells 2 swapcells 0 order cells",
+        "build swapcells 0 swapcells 1 swapcells 2 rows count cared build",
+        "build swapcells 2 swapcells 1 swapcells 0 swapcells 0 swapcells 1 swapcells 2 rows",
+        "build swapcells 0 swapcells 2 swapcells 2 swapcells 0",
         "build swapcells 1 eval 5 evals 3,15,16 evals 3,15 eval 16 rows cared",
-        "build swapcells 1 count state count swapcells 1 state build state",
-        "build swapcells 1 build cells swapcells 1 cells build cells",
-        "build swapcells 1 log 3,5 state swapcells 1 count build swapcells 1 cells logged cared",
+        "build swapcells 1 count count swapcells 1 build",
+        "build swapcells 1 build swapcells 1 build",
+        "build swapcells 1 log 3,5 swapcells 1 count build swapcells 1 cared",
         "build log 1 swapcells 0 relog swapcells 0 build swapcells 0 write",
-        "Swapcells 0", "swap-cells 0", "swapcell 0", "cellswap 0", "build swapcells 0 0",
-        "build swapcells swapcells 0", "build swapcells 1 bad", "build swapcells 0,1 state",
     ]
-    return [desk(file, command) for file in begun() for command in commands]
+    return [Case(file, command) for file in begun() for command in commands]
 
 
 def place_cases():
@@ -70,11 +67,9 @@ def place_cases():
         table = files.table_file(n, 1, range(n), bits, [1] * len(bits))
         beyond = (n - 1, n, n + 1, 255, 256, 65536, cases.LARGEST)
         places = [*range(n - 1), *(place for place in beyond if place >= 0)]
-        words = [word for place in places for word in ("swapcells", str(place), "state", "order")]
-        made.append(Case("desk", ["build"] + words + ["cells"], table))
-        made.append(Case("desk", ["build", "board", "0"] + words + ["cells"], table))
-        made.append(Case("desk", words, table))
-        made.append(Case("desk", words + ["cells"], read_of(table)))
+        asked = " ".join(f"swapcells {place}" for place in places)
+        made += [Case(table, first + asked) for first in ("build ", "build board 0 ", "")]
+        made.append(Case(read_of(table), asked))
     return made
 
 
@@ -94,13 +89,12 @@ def board_tables():
 
 def counts_at(file, place):
     """The cells held after a build, and those that a swap at a place leaves."""
-    words = ["build", "swapcells", str(place)]
-    return [cases.answer_after(file, words[:length], "state") for length in (1, 3)]
+    return [by_reference.held_after(file, f"build {then}") for then in ("", f"swapcells {place}")]
 
 
 def boards_at(file, place):
     """Boards around the cells held and the cells wanted, and the ends."""
-    return sorted({0, MOST_CELLS, *cases.boards_around(counts_at(file, place))})
+    return sorted({0, MOST_CELLS, *random_cases.boards_around(counts_at(file, place))})
 
 
 def board_cases():
@@ -109,25 +103,25 @@ def board_cases():
     for table in board_tables():
         for file in (table, read_of(table)):
             for place in range(file[4] - 1):
-                asked = f"swapcells {place} {LOOK} write"
+                asked = f"swapcells {place} rows write"
                 for board in boards_at(file, place):
                     command = f"build board {board} {asked} board {MOST_CELLS} {asked}"
-                    made.append(desk(file, command))
+                    made.append(Case(file, command))
     return made
 
 
 def board_changes():
     """Boards that change between builds and swaps."""
     commands = [
-        "board 4 build swapcells 1 state cells board 6 swapcells 1 cells swapcells 1 cells",
-        "board 6 build board 5 swapcells 1 state board 6 swapcells 1 cells board 4 swapcells 1",
-        "build board 3 swapcells 1 build state cells board 4 build swapcells 1 state cells",
-        "build swapcells 1 board 4 build swapcells 1 order cells board 6 build order cells",
-        "build board 5 swapcells 3 swapcells 1 swap 0 swapcells 1 build swapcells 0 cells",
+        "board 4 build swapcells 1 board 6 swapcells 1 swapcells 1",
+        "board 6 build board 5 swapcells 1 board 6 swapcells 1 board 4 swapcells 1",
+        "build board 3 swapcells 1 build board 4 build swapcells 1",
+        "build swapcells 1 board 4 build swapcells 1 board 6 build",
+        "build board 5 swapcells 3 swapcells 1 swap 0 swapcells 1 build swapcells 0",
     ]
     natural, crossed = two_ands([0, 1, 2, 3]), two_ands([0, 2, 1, 3])
     sources = (natural, crossed, read_of(natural), read_of(crossed))
-    return [desk(file, command) for file in sources for command in commands]
+    return [Case(file, command) for file in sources for command in commands]
 
 
 def growing_cases(rng):
@@ -139,8 +133,8 @@ def growing_cases(rng):
         for place in range(file[4] - 1):
             held, wanted = counts_at(file, place)
             boards = sorted({held, wanted - 1, wanted}) if wanted > held else []
-            words = [f"board {board} swapcells {place} state order cells" for board in boards]
-            made += [desk(file, " ".join(["build"] + words + ["write"]))] if words else []
+            words = [f"board {board} swapcells {place}" for board in boards]
+            made += [Case(file, " ".join(["build"] + words + ["write"]))] if words else []
     return made
 
 
@@ -149,14 +143,8 @@ def growing_cases(rng):
 
 def turn_words(rng, n, length):
     """So many swaps at any places, then the same ones back."""
-    there = [rng.randrange(n - 1) for _ in range(length)]
-    words = []
-    for place in there:
-        words += ["swapcells", str(place), "state"]
-    words += ["order", "cells", "count", "write"]
-    for place in there[::-1]:
-        words += ["swapcells", str(place)]
-    return words + ["order", "cells"]
+    there = [f"swapcells {rng.randrange(n - 1)}" for _ in range(length)]
+    return " ".join(there + ["count write"] + there[::-1])
 
 
 def outputs_at(n):
@@ -169,11 +157,9 @@ def size_cases(rng, n):
     made = []
     for m in outputs_at(n):
         table = cases.random_table(rng, n, m)
-        words = ["build", "cells"] + turn_words(rng, n, 6 if n < 8 else 2)
-        words += ["rows"] if n < 8 else []
-        made.append(Case("desk", words + ["build", "cells"], table))
-        if n < 9:
-            made.append(Case("desk", words + ["build", "cells"], read_of(table)))
+        command = f"build {turn_words(rng, n, 6 if n < 8 else 2)}"
+        command += " rows build" if n < 8 else " build"
+        made += [Case(file, command) for file in (table, read_of(table))[: 2 if n < 9 else 1]]
     return made
 
 
@@ -186,7 +172,7 @@ def with_a_build(rng):
         table = files.table_file(n, m, cases.random_order(rng, n), bits, [1] * len(bits))
         place = rng.randrange(n - 1)
         for words in (f"build swapcells {place}", f"build swap {place} build"):
-            made.append(desk(table, words + " order state cells write rows"))
+            made.append(Case(table, words + " write rows"))
     return made
 
 
@@ -195,19 +181,15 @@ def written_after(rng):
     made = []
     for n in range(2, 7):
         table = cases.random_table(rng, n, rng.randint(1, 4))
-        held = expected.Desk()
-        held.begin(table)
-        held.call("build", None)
-        held.call("swapcells", rng.randrange(n - 1))
-        made.append(desk(held.written()[1], LOOK + " swapcells 0 cells write build write"))
+        file = by_reference.written_after(table, f"build swapcells {rng.randrange(n - 1)}")
+        made.append(Case(file, "rows swapcells 0 write build write"))
     return made
 
 
 def widest_cases(rng):
     """All 2,159 cells: a board of just so many, and one too small for those held."""
-    table = cases.widest_cases(rng)[0].table
-    command = "build board 2158 swapcells 3 state board 2159 swapcells 3 state order"
-    return [desk(table, command + " swapcells 8 state cells eval 777 write")]
+    command = "build board 2158 swapcells 3 board 2159 swapcells 3 swapcells 8 eval 777 write"
+    return [Case(cases.widest_table(rng), command)]
 
 
 def groups(seed):

@@ -10,15 +10,17 @@ import unittest
 import drawings
 import expected
 import files
+from by_reference import answers_of, loaded, network_in, played, stage_of
 from drawings import EXAMPLES
+from gains import order_of
 
 
 def drawing(name):
     return (EXAMPLES / f"{name}.txt").read_text()
 
 
-def network_in(text):
-    """The printed network that a drawing shows."""
+def printed_in(text):
+    """The network that a drawing shows, as it is printed."""
     lines = [line.strip() for line in drawings.indented(text)]
     start = [line.split()[0] for line in lines].index("inputs")
     return "".join(line + "\n" for line in lines[start:])
@@ -68,7 +70,7 @@ class Examples(unittest.TestCase):
         for each in drawings.drawings():
             with self.subTest(each.name):
                 text = each.read_text()
-                self.assertEqual(network_in(text), expected.print_text(drawings.table_of(text)))
+                self.assertEqual(printed_in(text), expected.print_text(drawings.table_of(text)))
 
     def test_drawings_say_what_their_titles_say(self):
         wanted = {
@@ -83,8 +85,34 @@ class Examples(unittest.TestCase):
 
     def test_sifting_uncrosses(self):
         table = drawings.table_of(drawing("and-or-crossed"))
-        text = expected.desk_text(table, ["sift", "1", "order"])
-        self.assertEqual(text, "load 0 0\nsift 0 4\norder 1 0 2 3\n")
+        answers, lent = played(table, "count sift 1 build evals 3,12")
+        self.assertEqual(answers, [(0, 0), (0, 6), (0, 4), (0, 4), (0, 0)])
+        self.assertEqual((order_of(lent), list(lent.part("answers"))), ([1, 0, 2, 3], [1, 1]))
+
+    def test_a_swap_in_the_cells_uncrosses(self):
+        lent = loaded(drawings.table_of(drawing("and-or-crossed")), "build swapcells 1")
+        cells = [(0, 6, 4), (1, 6, 1), (2, 0, 8), (3, 0, 1)]
+        self.assertEqual((order_of(lent), network_in(lent)), ([0, 1, 2, 3], (cells, [2])))
+
+    def test_moves_of_the_crossed(self):
+        table = drawings.table_of(drawing("and-or-crossed"))
+        still, up, down = [0, 0, 0, 0], [-2, -2, 0, 0], [0, 0, -2, -2]
+        left, right = [0, 0, 2, 2], [2, 2, 0, 0]
+        reports = {"moves": (still, up, down, still), "sift 1 moves": (left, left, right, right)}
+        for command, rows in reports.items():
+            self.assertEqual(list(loaded(table, command).contents["gains"][:16]), sum(rows, []))
+
+    def test_logs_save_cells(self):
+        # Rows 0 and 12 are seen twice, 3 and 5 once.
+        table = drawings.table_of(drawing("and-or"))
+        command = "count log 0,0,3,5,12,12 cared count least 2 relog cared count"
+        numbers = [value for _, value in answers_of(table, command)]
+        self.assertEqual(numbers, [4, 0, 4, 2, 0, 2, 1])
+
+    def test_the_guard_as_a_network_file(self):
+        network = (EXAMPLES / "bounce-guard.cells").read_bytes()
+        answers, lent = played(network, "eval 30")
+        self.assertEqual((answers, stage_of(lent)), ([(0, 0), (0, 3)], ("network", 7)))
 
     def test_guard_with_every_row_drawn(self):
         rows = drawn_from(guard, 5)

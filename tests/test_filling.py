@@ -13,14 +13,15 @@ import cases
 import fill_tables
 import files
 import reference
-from test_reference import loaded, network_of
+from by_reference import loaded, network_of, state_of
 
 
 def table_in(file):
     """The lent table of a file, and its order."""
-    desk = loaded(file)
-    table = reference.lent_table(desk.state, desk.values, desk.care)
-    return table, reference.used_order(desk.state)
+    lent = loaded(file)
+    state = state_of(lent)
+    table = reference.lent_table(state, lent.contents["values"], lent.contents["care"])
+    return table, reference.used_order(state)
 
 
 def filled_of(file):

@@ -1,8 +1,7 @@
-"""A test of what README shows: the header, the examples in C and Python, and the programs.
+"""A test of the header, the examples in C and Python that README shows, and a program.
 
-`python3 tests/test_interface.py`, after ./build. The examples and programs must
-print what README shows, the header must declare what the library exports and
-no more.
+`python3 tests/test_interface.py`, after ./build. The examples must print what
+README shows, the header must declare what the library exports and no more.
 """
 
 import pathlib
@@ -18,7 +17,6 @@ ROOT = pathlib.Path(__file__).resolve().parent.parent
 HEADER = ROOT / "include" / "yavdocsil.h"
 STATIC = ROOT / "target" / "lib" / "libyavdocsil.a"
 SHARED = ROOT / "target" / "lib" / "libyavdocsil.so"
-DESK = ROOT / "target" / "bin" / "desk"
 CELLS = ROOT / "target" / "bin" / "cells"
 TABLE = "examples/and-or-crossed.table"
 STRICT = ["-Wall", "-Wextra", "-Werror", "-pedantic", f"-I{HEADER.parent}"]
@@ -71,29 +69,10 @@ class Examples(unittest.TestCase):
 
 
 class Programs(unittest.TestCase):
-    def run_on(self, path, *command):
-        """What a program writes, given a file on standard input."""
-        with open(ROOT / path, "rb") as file:
-            return subprocess.run(command, stdin=file, capture_output=True, check=True).stdout
-
-    def test_desk_prints_what_readme_shows(self):
-        for words, path in (
-            ("count sift 1 order build evals 3,12", TABLE),
-            ("state eval 30 write", "examples/bounce-guard.cells"),
-            (
-                "count log 0,0,3,5,12,12 logged cared count least 2 relog cared count",
-                "examples/and-or.table",
-            ),
-            ("build swapcells 1 order cells", TABLE),
-            ("order moves sift 1 order moves", TABLE),
-        ):
-            shown = shown_in_readme(f"target/bin/desk {words} < {path}")
-            with self.subTest(words):
-                self.assertEqual(self.run_on(path, DESK, *words.split()).decode(), shown)
-
     def test_cells_writes_the_example(self):
-        written = self.run_on("examples/bounce-guard.table", CELLS)
-        self.assertEqual(written, (ROOT / "examples/bounce-guard.cells").read_bytes())
+        with open(ROOT / "examples/bounce-guard.table", "rb") as file:
+            run = subprocess.run([CELLS], stdin=file, capture_output=True, check=True)
+        self.assertEqual(run.stdout, (ROOT / "examples/bounce-guard.cells").read_bytes())
 
 
 class Header(unittest.TestCase):

@@ -9,12 +9,13 @@ import itertools
 import random
 import unittest
 
-import expected
 import files
 import move_tables
 import moves
 import reference
 import swap_cases
+from by_reference import answers_of, loaded, network_in, played, stage_of
+from gains import order_of
 
 # Input 0 chooses: input 1 if it is 0, input 2 if it is 1.
 CHOICE = ["0 0 1 1 0 1 0 1"]
@@ -228,47 +229,38 @@ class Laws(unittest.TestCase):
                 self.assertEqual(rows[above][place + 1], rows[below][place])
 
 
-class Programs(unittest.TestCase):
-    def lines(self, outputs, command, order=None):
-        table = files.table_from_rows(outputs, order)
-        return expected.desk_text(table, command.split()).splitlines()[1:]
+class Scripts(unittest.TestCase):
+    def report(self, file):
+        """The entries of a report, a row for each input."""
+        lent = loaded(file, "moves")
+        n = len(order_of(lent))
+        return [list(lent.contents["gains"][n * i : n * i + n]) for i in range(n)]
 
-    def test_lines(self):
-        wanted = [
-            "moves 0 0", "input 0     0     0     0     0", "input 1    -2    -2     0     0",
-            "input 2     0     0    -2    -2", "input 3     0     0     0     0",
-        ]
-        self.assertEqual(self.lines(move_tables.TWO_ANDS, "moves", [0, 2, 1, 3]), wanted)
-        signs = self.lines(move_tables.EVERY_SIGN, "moves")
-        self.assertEqual(signs[-1], "input 3    -1    +1     0     0")
-
-    def test_wide_numbers(self):
-        self.assertEqual(expected.gain_line(1, [-2, 0, 0, 1]), "input 1    -2     0     0    +1")
-        self.assertEqual(expected.gain_line(9, [1233, -128, 10]), "input 9 +1233  -128   +10")
-        self.assertEqual(expected.gain_line(0, [0]), "input 0     0")
+    def test_reports(self):
+        crossed = files.table_from_rows(move_tables.TWO_ANDS, [0, 2, 1, 3])
+        still = [0, 0, 0, 0]
+        self.assertEqual(self.report(crossed), [still, [-2, -2, 0, 0], [0, 0, -2, -2], still])
+        signs = files.table_from_rows(move_tables.EVERY_SIGN)
+        self.assertEqual(self.report(signs)[3], [-1, 1, 0, 0])
 
     def test_no_inputs(self):
-        lines = self.lines(["1", "0"], "moves build moves")
-        self.assertEqual(lines, ["moves 0 0", "build 0 0", "moves 0 0"])
+        answers = answers_of(files.table_from_rows(["1", "0"]), "moves build moves")
+        self.assertEqual(answers, [(0, 0)] * 3)
 
     def test_nothing_changes(self):
-        lines = self.lines(CHOICE, "build moves state order cells")
-        # The report is a line for the answer and three for the inputs.
-        self.assertEqual(lines[:1] + lines[5:], self.lines(CHOICE, "build state order cells"))
-
-    def test_bad_words(self):
-        for command, place in {"moves 1": 2, "Moves": 1, "build moves moves 0": 4}.items():
-            self.assertEqual(self.lines(CHOICE, command)[-1], f"bad word {place}", command)
+        table = files.table_from_rows(CHOICE)
+        held = [loaded(table, command) for command in ("build", "build moves")]
+        for found in (stage_of, order_of, network_in):
+            self.assertEqual(*map(found, held))
 
     def test_a_network_file(self):
         file = swap_cases.read_of(files.table_from_rows(["0 1 1 -"]))
-        lines = expected.desk_text(file, ["moves", "state"]).splitlines()
-        report = ["moves 0 0", "input 0     0     0", "input 1     0     0"]
-        self.assertEqual(lines, ["read 0 0", *report, "state network 2"])
+        self.assertEqual(self.report(file), [[0, 0], [0, 0]])
+        self.assertEqual(stage_of(loaded(file, "moves")), ("network", 2))
 
     def test_a_table_that_is_refused(self):
         refused = files.with_byte(files.table_from_rows(["0 1 1 0"]), 1, 0, 3)
-        self.assertEqual(expected.desk_text(refused, ["moves"]), "load 3 0\n")
+        self.assertEqual(played(refused, "moves")[0], [(3, 0), (21, 0)])
 
 
 class Tables(unittest.TestCase):

@@ -16,7 +16,9 @@ import files
 import network_files
 import networks
 import reference
+from by_reference import answers_of, network_in, played, stage_of, written_after
 from cell_files import Network, network_file
+from test_filling import table_in
 
 EXCLUSIVE_OR = Network(2, 1, [0, 1], [(0, 4, 5), (1, 0, 1)], [2] + [0] * 15)
 
@@ -292,16 +294,13 @@ class Both(unittest.TestCase):
         rng = random.Random(10)
         for _ in range(40):
             n, m = rng.randint(0, 5), rng.randint(1, 5)
-            desk = expected.Desk()
-            desk.load(cases.random_table(rng, n, m))
-            table = reference.lent_table(desk.state, desk.values, desk.care)
-            order = reference.used_order(desk.state)
+            file = cases.random_table(rng, n, m)
+            table, order = table_in(file)
             outputs = reference.filled(table, order)
             rows = [reference.row_in_file(row, order) for row in range(2**n)]
             filled = [output[rows.index(row)] for output in outputs for row in range(2**n)]
-            desk.build()
-            lent = Lent(desk.state.count)
-            self.assertEqual(lent.read(desk.written()[1]), (0, 0))
+            lent = Lent(200)
+            self.assertEqual(lent.read(expected.cells_output(file)), (0, 0))
             self.assertEqual(lent.values[:2048], files.packed(filled).ljust(2048, b"\0"))
             self.assertEqual(lent.care[:2048], files.packed([1] * (m << n)).ljust(2048, b"\0"))
 
@@ -318,7 +317,7 @@ class Both(unittest.TestCase):
 
     def test_the_widest(self):
         # 2,159 cells take 26 blocks behind the heading, the writer's 13,824 bytes in all.
-        network = networks.of_table(cases.widest_cases(random.Random(1))[0].table)
+        network = networks.of_table(cases.widest_table(random.Random(1)))
         file = network_file(network)
         self.assertEqual((len(network.cells), len(file)), (2159, 13824))
         lent = Lent(2159)
@@ -329,9 +328,6 @@ class Both(unittest.TestCase):
 
 
 class Programs(unittest.TestCase):
-    def lines(self, file, command):
-        return expected.desk_text(file, command.split()).splitlines()
-
     def test_cells(self):
         table = files.table_from_rows(["0 1 1 0"])
         self.assertEqual(expected.cells_output(table), EXCLUSIVE_OR_FILE)
@@ -340,27 +336,29 @@ class Programs(unittest.TestCase):
         self.assertEqual(expected.cells_output(bytes(65537)), b"refused 1\n")
         self.assertEqual(expected.print_text(EXCLUSIVE_OR_FILE), "refused 3\n")
 
-    def test_desk_reads(self):
-        lines = self.lines(EXCLUSIVE_OR_FILE, "state cells cared eval 1 count")
-        wanted = ["read 0 0", "state network 2", "cell 1 0 4 5", "cell 2 1 0 1", "root 0 2"]
-        self.assertEqual(lines, wanted + ["cared 4", "eval 0 1", "count 0 2"])
-        for length, line in ((1, "read 1 0"), (1023, "read 1 0"), (512, "read 1 0")):
-            self.assertEqual(self.lines(EXCLUSIVE_OR_FILE[:length], "nonsense"), [line])
-        self.assertEqual(self.lines(EXCLUSIVE_OR_FILE.ljust(65536, b"\0"), ""), ["read 1 0"])
-        self.assertEqual(self.lines(EXCLUSIVE_OR_FILE.ljust(65537, b"\0"), ""), ["load 1 0"])
-        alike = Network(1, 1, [0], [(0, 0, 1)] * 2160, [2] + [0] * 15)
-        self.assertEqual(self.lines(network_file(alike), "state"), ["read 23 2160"])
-        self.assertEqual(self.lines(network_file(alike._replace(cells=alike.cells[1:])), "state"),
-                         ["read 32 0"])
 
-    def test_desk_writes(self):
-        written = ["write 0 0", "block 0 100", "block 1 107"]
-        self.assertEqual(self.lines(EXCLUSIVE_OR_FILE, "board 0 write")[1:], written)
+class Scripts(unittest.TestCase):
+    def test_a_file_that_is_read(self):
+        answers, lent = played(EXCLUSIVE_OR_FILE, "cared eval 1 count")
+        self.assertEqual(answers, [(0, 0), (0, 4), (0, 1), (0, 2)])
+        self.assertEqual(stage_of(lent), ("network", 2))
+        self.assertEqual(network_in(lent), ([(0, 4, 5), (1, 0, 1)], [2]))
+
+    def test_files_that_are_refused(self):
+        for length in (1, 512, 1023, 65536, 65537):
+            file = EXCLUSIVE_OR_FILE[:length].ljust(length, b"\0")
+            self.assertEqual(played(file)[0], [(1, 0)])
+        alike = Network(1, 1, [0], [(0, 0, 1)] * 2160, [2] + [0] * 15)
+        self.assertEqual(played(network_file(alike))[0], [(23, 2160)])
+        fewer = network_file(alike._replace(cells=alike.cells[1:]))
+        self.assertEqual(played(fewer)[0], [(32, 0)])
+
+    def test_what_is_written(self):
+        self.assertEqual(written_after(EXCLUSIVE_OR_FILE, "board 0"), EXCLUSIVE_OR_FILE)
         table = files.table_from_rows(["0 1 1 0"])
-        lines = self.lines(table, "write build write swap 0 write")
-        wanted = ["load 0 0", "write 22 0", "build 0 2"] + written + ["swap 0 0", "write 22 0"]
-        self.assertEqual(lines, wanted)
-        self.assertEqual(self.lines(table, "write 5")[1:], ["write 22 0", "bad word 2"])
+        self.assertEqual(written_after(table, "build"), EXCLUSIVE_OR_FILE)
+        answers = answers_of(table, "write build write swap 0 write")
+        self.assertEqual(answers, [(22, 0), (0, 2), (0, 0), (0, 0), (22, 0)])
 
 
 if __name__ == "__main__":

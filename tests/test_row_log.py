@@ -8,12 +8,11 @@ import itertools
 import random
 import unittest
 
-import cases
-import expected
 import files
 import log_cases
 import reference
 import row_log
+from by_reference import answers_of, loaded, network_in, played, stage_of
 
 MOST = 4294967295
 
@@ -184,49 +183,47 @@ class Several(unittest.TestCase):
             self.assertEqual(left, left[:1] * 7)
 
 
-class Programs(unittest.TestCase):
-    def lines(self, outputs, command):
-        table = files.table_from_rows(outputs)
-        return expected.desk_text(table, command.split()).splitlines()[1:]
+class Scripts(unittest.TestCase):
+    def answers(self, outputs, command):
+        return answers_of(files.table_from_rows(outputs), command)
+
+    def assert_network(self, outputs, command, network):
+        lent = loaded(files.table_from_rows(outputs), command)
+        self.assertEqual(network_in(lent), network)
 
     def test_section_9_by_logs(self):
         # 0 0 0 -, then 0 1 1 -, which fills to 0 1 1 1 and takes two cells, and
         # 0 1 - 1, which by document 02's 2.6 fills to 0 1 0 1 and takes one.
-        lines = self.lines(["0 0 0 1"], "log 0,1,2 build cells least 0 relog count")
-        self.assertEqual(lines, ["log 0 0", "build 0 0", "root 0 0", "relog 0 0", "count 0 2"])
-        or_cells = ["build 0 2", "cell 1 0 4 1", "cell 2 1 0 1", "root 0 2"]
-        self.assertEqual(self.lines(["0 1 1 0"], "log 0,1,2 build cells"), ["log 0 0"] + or_cells)
-        one_cell = ["build 0 1", "cell 1 1 0 1", "root 0 2"]
-        self.assertEqual(self.lines(["0 1 1 1"], "log 3,1,0 build cells"), ["log 0 0"] + one_cell)
+        self.assert_network(["0 0 0 1"], "log 0,1,2 build", ([], [0]))
+        answers = self.answers(["0 0 0 1"], "log 0,1,2 build least 0 relog count")
+        self.assertEqual(answers, [(0, 0), (0, 0), (0, 0), (0, 2)])
+        self.assert_network(["0 1 1 0"], "log 0,1,2 build", ([(0, 4, 1), (1, 0, 1)], [2]))
+        self.assert_network(["0 1 1 1"], "log 3,1,0 build", ([(1, 0, 1)], [2]))
 
-    def test_words(self):
-        command = "logged relog cared log 3,1,3 logged cared least 2 relog cared log 1 cared logged"
-        wanted = ["relog 0 0", "cared 0", "log 0 0", "seen 1 1", "seen 3 2", "cared 2"]
-        wanted += ["relog 0 0", "cared 1", "log 0 0", "cared 2", "seen 1 2", "seen 3 2"]
-        self.assertEqual(self.lines(["0 1 1 0"], command), wanted)
-        wanted = ["build 0 2", "log 8 0", "state network 2", "log 0 0", "state table 0"]
-        self.assertEqual(self.lines(["0 1 1 0"], "build log 0,4 state log 0 state"), wanted)
+    def test_logs_in_turn(self):
+        command = "relog cared log 3,1,3 cared least 2 relog cared log 1 cared"
+        cared = self.answers(["0 1 1 0"], command)[1::2]
+        self.assertEqual(cared, [(0, 0), (0, 2), (0, 1), (0, 2)])
+        lent = loaded(files.table_from_rows(["0 1 1 0"]), command)
+        self.assertEqual(list(lent.contents["counts"][:4]), [0, 2, 0, 2])
+
+    def test_a_refused_log_keeps_the_network(self):
+        table = files.table_from_rows(["0 1 1 0"])
+        for command, answer, left in (("0,4", (8, 0), ("network", 2)), ("0", (0, 0), ("table", 0))):
+            answers, lent = played(table, f"build log {command}")
+            self.assertEqual((answers[-1], stage_of(lent)), (answer, left))
 
     def test_no_inputs(self):
-        lines = self.lines(["1", "0"], "log 0,0 logged cared log 1 least 3 relog cared build cells")
-        wanted = ["log 0 0", "seen 0 2", "cared 2", "log 8 0", "relog 0 0", "cared 0", "build 0 0"]
-        self.assertEqual(lines, wanted + ["root 0 0", "root 1 0"])
-
-    def test_bad_words(self):
-        wanted = {
-            "least": 2, "log": 2, "relog 1": 2, "logged 0": 2, "least 4294967296": 2, "log 3,": 2,
-            "log 65536": 2, "least 1,1": 2, "log 1 log": 4, "Logged": 1,
-        }
-        for command, place in wanted.items():
-            self.assertEqual(self.lines(["0 1 1 0"], command)[-1], f"bad word {place}", command)
-        for text in cases.WRONG_LISTS:
-            words = ["log", text, "state"]
-            lines = expected.desk_text(log_cases.free_table(), words).splitlines()
-            self.assertEqual(lines[1:], ["bad word 2"], text)
+        command = "log 0,0 cared log 1 least 3 relog cared build"
+        wanted = [(0, 0), (0, 2), (8, 0), (0, 0), (0, 0), (0, 0)]
+        self.assertEqual(self.answers(["1", "0"], command), wanted)
+        lent = played(files.table_from_rows(["1", "0"]), command)[1]
+        self.assertEqual((lent.contents["counts"][0], network_in(lent)), (2, ([], [0, 0])))
 
     def test_a_network_file(self):
-        lines = expected.desk_text(log_cases.begun()[1], "cared log 7,7 state cared".split())
-        self.assertEqual(lines, "read 0 0\ncared 16\nlog 0 0\nstate table 0\ncared 2\n")
+        answers, lent = played(log_cases.begun()[1], "cared log 7,7 cared")
+        self.assertEqual(answers, [(0, 0), (0, 16), (0, 0), (0, 2)])
+        self.assertEqual(stage_of(lent), ("table", 0))
 
 
 if __name__ == "__main__":
