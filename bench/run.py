@@ -1,6 +1,7 @@
-"""Times `desk` beside `&ttopt` of ABC on the same tables, in one run.
+"""Times the library's `count`, `build` and `pass` beside `&ttopt` of ABC on the same
+tables, in one run.
 
-    python3 bench/run.py [--desk PATH] [--repeats N]
+    python3 bench/run.py [--library PATH] [--repeats N]
 
 It prints a Markdown table. README.md says what is measured and how.
 """
@@ -13,7 +14,6 @@ import statistics
 import subprocess
 import sys
 import tempfile
-from collections import namedtuple
 from pathlib import Path
 
 import same
@@ -23,74 +23,41 @@ import ttopt
 ROOT = Path(__file__).resolve().parent.parent
 # Inputs, outputs and how much is cared in percent.
 SIZES = [(10, 16, 100), (10, 16, 90), (10, 16, 50), (10, 16, 20), (8, 4, 50), (6, 3, 50)]
-NO_LIMIT = "4294967295"
 # A work is repeated in one process until it takes so many seconds, if it can.
 ENOUGH_SECONDS = 0.4
-MOST_TIMES = 2**13
+MOST_TIMES = 2**18
+# The orders that our passes begin with; after the last comes the first again.
+ORDERS = 1024
 
-# `commands` gives, for k, the command that does the work k times and the same
-# command without the work. `table` is what both read from standard input.
-Work = namedtuple("Work", "commands table folder")
-
-
-# The work.
+TABLE, FILLED, ORDER_FILE = "drawn.table", "filled.table", "start.orders"
 
 
-def repeated(desk, word):
-    return lambda k: ([desk] + [word] * k, [desk])
+# The work: for each a function that gives, for k, the seconds for doing it once, from
+# doing it k times in one process.
 
 
-def shuffle(source, n):
-    """Swaps of neighbouring places that put the inputs into random places."""
-    wanted = source.sample(range(n), n)
-    swaps = []
-    for last in range(n - 1, 0, -1):
-        for p in range(last):
-            if wanted[p] > wanted[p + 1]:
-                wanted[p], wanted[p + 1] = wanted[p + 1], wanted[p]
-                swaps += ["swap", str(p)]
-    return swaps
+def built_in(folder, library):
+    """The program that makes our calls."""
+    program = folder / "passes"
+    command = ["cc", "-O2", ROOT / "bench/passes.c", f"-I{ROOT}/include", library, "-o", program]
+    subprocess.run(command, check=True)
+    return program
 
 
-def passes(desk, n):
-    """Whole passes from random orders, as the rounds of `&ttopt` are."""
-
-    def commands(k):
-        source = random.Random(n)
-        shuffles = [shuffle(source, n) for _ in range(k)]
-        with_work = [word for swaps in shuffles for word in swaps + ["pass", NO_LIMIT]]
-        without = [word for swaps in shuffles for word in swaps]
-        return [desk] + with_work, [desk] + without
-
-    return commands
+def said(program, *words):
+    """The number that it prints; a refused call is an error."""
+    command = [program, *map(str, words)]
+    run = subprocess.run(command, cwd=program.parent, stdout=subprocess.PIPE, check=True)
+    return int(run.stdout)
 
 
-def rounds(abc, table, plain):
-    return lambda k: (
-        ttopt.command(abc, table, k, plain),
-        ttopt.command(abc, table, 0, plain),
-    )
+def calls(program, word, *more):
+    return lambda k: said(program, TABLE, word, k, *more) / 1e9 / k
 
 
-def ways(table):
-    """The ways of `&ttopt` that fit a table, and whether each is the plain one."""
-    return {"free rows": False, "plain": True} if table.percent == 100 else {"free rows": False}
-
-
-def works_on(table, desk, abc, folder):
-    """Ours and theirs, by name, in the sequence in which they take turns."""
-    file = tables.file_of(table)
-    works = {
-        "count": Work(repeated(desk, "count"), file, folder),
-        "build": Work(repeated(desk, "build"), file, folder),
-        "pass": Work(passes(desk, table.n), file, folder),
-    }
-    for way, plain in ways(table).items():
-        works[way] = Work(rounds(abc, table, plain), b"", folder)
-    return works
-
-
-# The times.
+def random_orders(n):
+    source = random.Random(n)
+    return b"".join(bytes(source.sample(range(n), n)) for _ in range(ORDERS))
 
 
 def children_seconds():
@@ -98,45 +65,56 @@ def children_seconds():
     return used.ru_utime + used.ru_stime
 
 
-def check_answers(text):
-    """Every line of `desk` must be a success: `WORD 0 VALUE`."""
-    for line in text.splitlines():
-        if line.split()[1:2] != ["0"]:
-            raise ValueError(f"desk answers: {line}")
-
-
-def seconds(command, work):
+def process_seconds(command, folder):
     """The processor time of one process, so without its waiting for others."""
     before = children_seconds()
-    run = subprocess.run(command, input=work.table, cwd=work.folder, stdout=subprocess.PIPE)
-    after = children_seconds()
-    if work.table:
-        check_answers(run.stdout.decode())
-    else:
-        run.check_returncode()
-    return after - before
+    subprocess.run(command, cwd=folder, stdout=subprocess.DEVNULL, check=True)
+    return children_seconds() - before
 
 
-def once(work, k):
-    """Seconds for doing the work once, from doing it k times."""
-    with_work, without = work.commands(k)
-    return (seconds(with_work, work) - seconds(without, work)) / k
+def rounds(abc, table, plain, folder):
+    """The rounds beyond the first, which every process does."""
+
+    def once(k):
+        commands = [ttopt.command(abc, table, each, plain) for each in (k, 0)]
+        with_rounds, without = [process_seconds(command, folder) for command in commands]
+        return (with_rounds - without) / k
+
+    return once
 
 
-def times_for(work):
+def ways(table):
+    """The ways of `&ttopt` that fit a table, and whether each is the plain one."""
+    return {"free rows": False, "plain": True} if table.percent == 100 else {"free rows": False}
+
+
+def works_on(table, program, abc):
+    """Ours and theirs, by name, in the sequence in which they take turns."""
+    folder = program.parent
+    works = {"count": calls(program, "count"), "build": calls(program, "build")}
+    works["pass"] = calls(program, "pass", ORDER_FILE)
+    for way, plain in ways(table).items():
+        works[way] = rounds(abc, table, plain, folder)
+    return works
+
+
+# The times.
+
+
+def times_for(once):
     k = 1
-    while k < MOST_TIMES and k * once(work, k) < ENOUGH_SECONDS:
+    while k < MOST_TIMES and k * once(k) < ENOUGH_SECONDS:
         k *= 2
     return k
 
 
 def measured(works, repeats):
     """For each work its seconds, once for each turn."""
-    times = {name: times_for(work) for name, work in works.items()}
+    times = {name: times_for(once) for name, once in works.items()}
     samples = {name: [] for name in works}
     for _ in range(repeats):
-        for name, work in works.items():
-            samples[name].append(once(work, times[name]))
+        for name, once in works.items():
+            samples[name].append(once(times[name]))
     return samples
 
 
@@ -198,28 +176,24 @@ def load():
     return " ".join(f"{each:.2f}" for each in os.getloadavg())
 
 
-def cells_of(desk, table):
-    """The cells that a pass from the order in the file comes to."""
-    words = [desk, "pass", NO_LIMIT, "count"]
-    run = subprocess.run(words, input=tables.file_of(table), stdout=subprocess.PIPE)
-    return int(run.stdout.split()[-1])
-
-
-def compared_cells(desk, abc, table, way, folder):
-    """Ours, and those of the table as `&ttopt` filled it, once that is checked."""
+def compared_cells(program, abc, table, way):
+    """Those after a pass of ours from the order in the file, and those of the table as
+    `&ttopt` filled it, once that is checked."""
+    folder = program.parent
     filled = ttopt.filled(abc, table, folder, ways(table)[way])
     same.check(table, filled)
-    return f"{cells_of(desk, table)} / {cells_of(desk, tables.drawn_in_full(table, filled))}"
+    (folder / FILLED).write_bytes(tables.file_of(tables.drawn_in_full(table, filled)))
+    return " / ".join(str(said(program, name, "cells")) for name in (TABLE, FILLED))
 
 
-def measure_size(size, desk, abc, repeats):
+def measure_size(size, program, abc, repeats):
     """Says the table's lines for one size, and gives the times."""
-    table = tables.random_table(*size)
-    with tempfile.TemporaryDirectory() as name:
-        folder = Path(name)
-        ttopt.write(table, folder)
-        cells = {way: compared_cells(desk, abc, table, way, folder) for way in ways(table)}
-        samples = measured(works_on(table, desk, abc, folder), repeats)
+    table, folder = tables.random_table(*size), program.parent
+    ttopt.write(table, folder)
+    (folder / TABLE).write_bytes(tables.file_of(table))
+    (folder / ORDER_FILE).write_bytes(random_orders(table.n))
+    cells = {way: compared_cells(program, abc, table, way) for way in ways(table)}
+    samples = measured(works_on(table, program, abc), repeats)
     for way in ways(table):
         say(line(table, samples, way, cells[way]))
     return samples
@@ -227,7 +201,7 @@ def measure_size(size, desk, abc, repeats):
 
 def arguments():
     parser = argparse.ArgumentParser(description=__doc__.splitlines()[0])
-    parser.add_argument("--desk", default=ROOT / "target/bin/desk", type=Path)
+    parser.add_argument("--library", default=ROOT / "target/lib/libyavdocsil.so", type=Path)
     parser.add_argument("--repeats", default=9, type=int)
     return parser.parse_args()
 
@@ -237,13 +211,14 @@ def main():
     abc = ttopt.found()
     if abc is None:
         sys.exit("no ABC here: apt-get install berkeley-abc")
-    if not given.desk.is_file():
-        sys.exit(f"no {given.desk}: rt check desk")
+    if not given.library.is_file():
+        sys.exit(f"no {given.library}: ./build")
     before = load()
-    say(HEADING)
-    say(["---"] * len(HEADING))
-    desk = str(given.desk.resolve())
-    samples = [measure_size(size, desk, abc, given.repeats) for size in SIZES]
+    with tempfile.TemporaryDirectory() as folder:
+        program = built_in(Path(folder), given.library.resolve())
+        say(HEADING)
+        say(["---"] * len(HEADING))
+        samples = [measure_size(size, program, abc, given.repeats) for size in SIZES]
     print()
     say_noise(samples)
     print(f"load of the machine before and after: {before}, {load()}")
