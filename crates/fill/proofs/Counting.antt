@@ -1,3 +1,4 @@
 pub mod CountedCells
 pub mod LinkPairs
+pub mod LinkedLevels
 pub mod PerLevel

@@ -1,4 +1,3 @@
 pub mod Descent
-pub mod Counts
 pub mod Filling
 pub mod Lowering

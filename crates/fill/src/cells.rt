@@ -1,14 +1,51 @@
 // The cells of each level, counted from the links in the work buffer: an entry whose two links differ is a cell.
 use crate::LINKS;
+use crate::WORK;
+use diagram::OUTPUTS;
 use diagram::VARIABLES;
 ghost use mathlib.Core.Path.{_≡_};
 ghost use mathlib.Core.List.{sum};
 ghost use Prim.Native.Nat.{_+_, _*_, _≤_};
+ghost use lib.Dec.{leb};
 ghost use lib.ListN.{length, take};
-ghost use Rattle.diagram.specs.Bound.{mostVariables, mostOutputs, mostNodes};
-ghost use Rattle.fill.specs.Work.{linksAt};
+ghost use Rattle.diagram.specs.Bound.{mostVariables, mostOutputs};
+ghost use Rattle.fill.specs.Work.{workSize, linksAt};
 ghost use Rattle.fill.specs.Calls.{perLevel};
-ghost use Rattle.fill.specs.inner.Counts.{pairDiffers, differingPairs, countsAt, linksEnd};
+ghost use Rattle.fill.specs.Counts.{pairDiffers, differingPairs, countsAt, linksEnd, linksFit};
+
+// Whether the links of n levels from byte at on end at byte end or before it, however many entries are told: no sum is too large.
+fn ends_within(n: usize, entries: [usize; VARIABLES], at: usize, end: usize) -> bool
+    requires { ⌜ (n ≤ mostVariables) × (at ≤ end) ⌝ }
+    ensures { λ r. ⌜ r ≡ leb (linksEnd at (take n entries)) end ⌝ }
+{
+    let mut room = end - at;
+    let mut p = 0;
+    while p < n {
+        let pairs = entries[p];
+        if room / 4 < pairs {
+            return false;
+        }
+        room -= 4 * pairs;
+        p += 1;
+    }
+    true
+}
+
+// Whether a work buffer of so many bytes has its size, and the links of m outputs and n levels lie in it.
+pub(crate) fn links_fit(n: usize, m: usize, entries: [usize; VARIABLES], long: usize) -> bool
+    ensures { λ r. ⌜ r ≡ linksFit n m entries long ⌝ }
+{
+    if VARIABLES < n {
+        return false;
+    }
+    if OUTPUTS < m {
+        return false;
+    }
+    if long < WORK {
+        return false;
+    }
+    ends_within(n, entries, LINKS + 2 * m, WORK)
+}
 
 // Whether the two links at byte a differ.
 pub(crate) fn pair_differs(work: &[u8], a: usize) -> bool
@@ -61,7 +98,7 @@ pub(crate) fn level_counts(
 
 // All of them.
 pub(crate) fn total(counts: [usize; VARIABLES]) -> usize
-    requires { ⌜ sum _+_ 0 counts ≤ mostNodes ⌝ }
+    requires { ⌜ sum _+_ 0 counts ≤ workSize ⌝ }
     ensures { λ r. ⌜ r ≡ sum _+_ 0 counts ⌝ }
 {
     let mut cells = 0;

@@ -6,6 +6,9 @@ mod fitting;
 mod lowering;
 mod outputs;
 
+use crate::cells::level_counts;
+use crate::cells::links_fit;
+use crate::cells::total;
 use crate::filling::fill_held;
 use crate::lowering::try_held;
 use crate::outputs::zero;
@@ -19,6 +22,7 @@ ghost use mathlib.Core.Path.{_≡_};
 ghost use Rattle.fill.specs.Work.{clearedWork};
 ghost use Rattle.fill.specs.Calls.{countAnswer, countWork, levelsOf, linksWork};
 ghost use Rattle.fill.specs.Calls.{trialsAnswer, trialsCounts, trialsWork};
+ghost use Rattle.fill.specs.Counts.{linkedLevels};
 ghost use Rattle.fill.specs.inner.Filling.{refusedLevels};
 
 // Where the links begin, behind two regions, and the bytes of the work buffer; specs/Work.antt has the definitions, `linksAt` and
@@ -72,6 +76,23 @@ pub fn links(state: State, values: &[u8], care: &[u8], work: &mut [u8]) -> Level
         return refused(Answer::NoTable);
     }
     fill_held(state, values, care, work)
+}
+
+// Counts the cells of each of n levels from links in the work buffer, whoever put them there: those of m outputs, then those of the levels,
+// with so many entries each. Refuses with 10 where they don't lie in it.
+pub fn count_links(n: usize, m: usize, entries: [usize; VARIABLES], work: &[u8]) -> Levels
+    ensures { λ r. ⌜ r ≡ linkedLevels n m entries (now (work .entry)) ⌝ }
+{
+    if !links_fit(n, m, entries, work.len()) {
+        return refused(Answer::ShortBuffer);
+    }
+    let counts = level_counts(n, m, entries, work);
+    let cells = total(counts);
+    Levels {
+        answer: Answer::Done(cells),
+        entries,
+        counts,
+    }
 }
 
 // Makes a work buffer of its size zero.

@@ -30,7 +30,7 @@ use Rattle.fill.specs.Calls.{heldTable, countAnswer, levelsOf, linksWork}
 use Rattle.fill.proofs.Calls.Answers.{levels-answer}
 use Rattle.lent.specs.Lent.{lentDiagram, rootsSize}
 use Rattle.lent.proofs.Sizes.{roots-size}
-use Rattle.network.specs.inner.Levels.{storedLimit, made, levelAt, levelsMade, rootAt}
+use Rattle.network.specs.Levels.{storedLimit, made, levelAt, levelsMade, rootAt}
 use Rattle.network.specs.Build.{wanted, capacity, reachesBoard, networkState, clears, buildOutcome, buildRoots, buildCells}
 use Rattle.network.specs.Build.{buildWork, Built}
 use Rattle.network.proofs.HeldRead.{heldLinks, heldEntries, heldCounts}

@@ -16,7 +16,7 @@ use Rattle.diagram.specs.Network.{reference}
 use Rattle.diagram.specs.inner.Trace.{opposite}
 use Rattle.diagram.proofs.Bools.{split}
 use Rattle.diagram.proofs.Bits.{digit-eqb}
-use Rattle.network.specs.inner.Levels.{storedAt, putStored, refAt, Made, made, noded, entryMade, levelMade}
+use Rattle.network.specs.Levels.{storedAt, putStored, refAt, Made, made, noded, entryMade, levelMade}
 
 node-reference : (next r : ℕ) → reference true next (inverts true r) ≡ 2 * (next + 1) + r % 2
 node-reference next r = rw (digit-eqb (r % 2) (omega arith)) (omega arith)

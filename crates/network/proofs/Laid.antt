@@ -16,10 +16,10 @@ use Rattle.table.proofs.Held.{few-inputs, few-outputs}
 use Rattle.fill.specs.Work.{workSize, linksAt, allLinks, traceWork, zeroWork, clearedWork}
 use Rattle.fill.specs.Calls.{heldTable, drawnOutputs}
 use Rattle.fill.proofs.Room.LinksRoom.{linksLimit}
+use Rattle.fill.proofs.Counting.LinkPairs.{Links}
 use Rattle.lent.specs.Lent.{numbersOf, rootsSize}
 use Rattle.network.specs.Build.{heldNetwork, wanted}
-use Rattle.network.specs.inner.Levels.{storedLimit, Made, made, levelAt, levelsMade, rootAt}
-use Rattle.network.proofs.LinkRefs.{Links}
+use Rattle.network.specs.Levels.{storedLimit, Made, made, levelAt, levelsMade, rootAt}
 use Rattle.network.proofs.LevelsRead.{Sized}
 use Rattle.network.proofs.HeldRead.{heldLinks, heldLevels, heldEntries, heldCounts, room, few-wanted, held-sized}
 use Rattle.network.proofs.TraceRead.{read-end, read-total, read-next, read-cells, read-work, read-roots}

@@ -18,10 +18,12 @@ use Rattle.diagram.specs.inner.Trace.{sameLink, differing, linkRef, entryRefs, 
 use Rattle.diagram.proofs.Bools.{split}
 use Rattle.diagram.proofs.Rising.{AllValid}
 use Rattle.matching.specs.Links.{linkNumber}
+use Rattle.fill.proofs.Counting.LinkPairs.{Links, numbers-same}
 use Rattle.lent.specs.Lent.{numbersOf}
-use Rattle.network.specs.inner.Levels.{storedAt, putStored, refAt, Made, passed, noded, entryMade, levelMade}
-use Rattle.network.proofs.Words.{Outside, same-word, outside-none, outside-join, outside-put, word-put}
-use Rattle.network.proofs.LinkRefs.{Links, Slots, links-kept, slots-kept, numbers-same, number-ref}
+use Rattle.network.specs.Levels.{storedAt, refAt, Made, passed, noded, entryMade, levelMade}
+use Rattle.network.proofs.Words.{Outside, same-word, outside-put, word-put}
+use Rattle.network.proofs.AnyLinks.{level-outside}
+use Rattle.network.proofs.LinkRefs.{Slots, links-kept, slots-kept, number-ref}
 
 -- the entries of so many links
 abbrev pub pairsOf : List Link → ℕ
@@ -59,8 +61,6 @@ level-first p below i (suc e) s =
 pub record LevelRead (p i : ℕ) (refs : List ℕ) (ls : List Link) (s t : Made) : Type 0 where
   pub slots : Slots (t .work) i (entryRefs true (s .next) refs ls)
   pub stored : t .cells ≡ sets (s .cells) (3 * s .next) (numbersOf (entryNodes true p refs ls))
-  pub counted : t .next ≡ s .next + differing ls
-  pub outside : Outside (s .work) (t .work) i (i + 4 * pairsOf ls)
 
 module _ (p below : ℕ) (refs : List ℕ) where
   -- of an entry whose links are k and l
@@ -91,10 +91,6 @@ module _ (p below : ℕ) (refs : List ℕ) where
   slots-on : (i : ℕ) (w w′ : List ℕ) → i + 4 ≤ below → Outside w w′ i (i + 2) → Slots w below refs → Slots w′ below refs
   slots-on i w w′ h o = slots-kept w w′ below refs (λ j a. o .past j (omega arith))
 
-  joined-outside : (i n : ℕ) (w w′ w″ : List ℕ) → Outside w w′ i (i + 2) → Outside w′ w″ (i + 4) (i + 4 + 4 * n)
-      → Outside w w″ i (i + 4 * suc n)
-  joined-outside i n w w′ w″ = outside-join (omega arith) (omega arith) (omega arith) (omega arith)
-
   module _ (i : ℕ) (s t : Made) (k l : Link) (ls : List Link) (long : i + 1 < length (s .work)) where
     abbrev r : ℕ
     r = linkRef refs k
@@ -105,50 +101,44 @@ module _ (p below : ℕ) (refs : List ℕ) where
     abbrev o : ℕ
     o = reference true (s .next) (inverts true r)
 
-    step-same : sameLink k l ≡ true → LevelRead p (i + 4) refs ls (passed i r s) t → LevelRead p i refs (k ∷ l ∷ ls) s t
-    step-same e rest =
+    -- what the others leave as it was
+    abbrev Left : Made → Type 0
+    Left u = Outside (u .work) (t .work) (i + 4) (i + 4 + 4 * pairsOf ls)
+
+    step-same : sameLink k l ≡ true → Left (passed i r s) → LevelRead p (i + 4) refs ls (passed i r s) t → LevelRead p i refs (k ∷ l ∷ ls) s t
+    step-same e left rest =
         record {
           slots =
               rw e (slots-join i r (entryRefs true (s .next) refs ls) (passed i r s) t (i + 4 + 4 * pairsOf ls)
-              (word-put (s .work) i r long) (rest .outside) (rest .slots));
+              (word-put (s .work) i r long) left (rest .slots));
           stored = rw e (rest .stored);
-          counted = rw e (rest .counted);
-          outside = joined-outside i (pairsOf ls) (s .work) (putStored (s .work) i r) (t .work) (outside-put (s .work) i r) (rest .outside);
         }
 
-    step-other : sameLink k l ≡ false → LevelRead p (i + 4) refs ls (noded p i r q s) t → LevelRead p i refs (k ∷ l ∷ ls) s t
-    step-other e rest =
+    step-other : sameLink k l ≡ false → Left (noded p i r q s) → LevelRead p (i + 4) refs ls (noded p i r q s) t
+        → LevelRead p i refs (k ∷ l ∷ ls) s t
+    step-other e left rest =
         record {
           slots =
               rw e (slots-join i o (entryRefs true (suc (s .next)) refs ls) (noded p i r q s) t (i + 4 + 4 * pairsOf ls)
-              (word-put (s .work) i o long) (rest .outside)
+              (word-put (s .work) i o long) left
               (subst (λ x. Slots (t .work) (i + 4) (entryRefs true x refs ls)) (add-one (s .next)) (rest .slots)));
           stored =
               rw e (rest .stored ∙ ap (λ x. sets (noded p i r q s .cells) x (numbersOf (entryNodes true p refs ls))) (three (s .next)));
-          counted = rw e (omega (arith, rest .counted));
-          outside = joined-outside i (pairsOf ls) (s .work) (putStored (s .work) i o) (t .work) (outside-put (s .work) i o) (rest .outside);
         }
       where
         three : (n : ℕ) → 3 * (n + 1) ≡ suc (suc (suc (3 * n)))
         three n = omega arith
 
-  none : (i : ℕ) (ls : List Link) (s : Made) → pairsOf ls ≡ 0 → ((base : ℕ) → entryRefs true base refs ls ≡ [])
-      → entryNodes true p refs ls ≡ [] → differing ls ≡ 0
+  none : (i : ℕ) (ls : List Link) (s : Made) → ((base : ℕ) → entryRefs true base refs ls ≡ []) → entryNodes true p refs ls ≡ []
       → LevelRead p i refs ls s (levelMade p below i 0 s)
   unfolding levelMade
-  none i ls s e f g d =
-      record {
-        slots = rw (f (s .next)) tt;
-        stored = rw g;
-        counted = omega arith;
-        outside = outside-none (s .work) i (i + 4 * pairsOf ls);
-      }
+  none i ls s f g = record { slots = rw (f (s .next)) tt; stored = rw g }
 
   -- where the entries below stand behind this level's, and have their references
   pub level-read : (ls : List Link) (i : ℕ) (s : Made) → Links (s .work) i ls → Slots (s .work) below refs → AllValid true (length refs) ls
       → i + 4 * pairsOf ls ≤ below → i + 4 * pairsOf ls ≤ length (s .work) → LevelRead p i refs ls s (levelMade p below i (pairsOf ls) s)
-  level-read [] i s h a v b c = none i [] s refl (λ base. refl) refl refl
-  level-read (k ∷ []) i s h a v b c = none i (k ∷ []) s refl (λ base. refl) refl refl
+  level-read [] i s h a v b c = none i [] s (λ base. refl) refl
+  level-read (k ∷ []) i s h a v b c = none i (k ∷ []) s (λ base. refl) refl
   level-read (k ∷ l ∷ ls) i s h a v b c =
       let ek = number-ref (s .work) below refs a k (v .0) in
       let el = number-ref (s .work) below refs a l (v .1 .0) in
@@ -163,11 +153,12 @@ module _ (p below : ℕ) (refs : List ℕ) where
       let t = levelMade p below (i + 4) (pairsOf ls) u in
       subst (LevelRead p i refs (k ∷ l ∷ ls) s)
       (sym (level-first p below i (pairsOf ls) s ∙ ap (levelMade p below (i + 4) (pairsOf ls)) eu))
-      (step-same i s t k l ls (omega arith) e (on u (outside-put (s .work) i (linkRef refs k)) (simp length-set))))
+      (step-same i s t k l ls (omega arith) e (level-outside p below (i + 4) (pairsOf ls) u)
+      (on u (outside-put (s .work) i (linkRef refs k)) (simp length-set))))
       (λ e. let u = noded p i (linkRef refs k) (linkRef refs l) s in
       let eu : entryMade p below i s ≡ u = entry-other i s k l (h .0) (h .1 .0) e ∙ ap₂ (λ x y. noded p i x y s) ek el in
       let t = levelMade p below (i + 4) (pairsOf ls) u in
       subst (LevelRead p i refs (k ∷ l ∷ ls) s)
       (sym (level-first p below i (pairsOf ls) s ∙ ap (levelMade p below (i + 4) (pairsOf ls)) eu))
-      (step-other i s t k l ls (omega arith) e
+      (step-other i s t k l ls (omega arith) e (level-outside p below (i + 4) (pairsOf ls) u)
       (on u (outside-put (s .work) i (reference true (s .next) (inverts true (linkRef refs k)))) (simp length-set))))

@@ -6,7 +6,7 @@ use Prim.Native.Nat.{ℕ, zero, suc, _+_, _-_, _≤_}
 use native.Mathlib.Omega.{arith}
 use lib.ListN.{length, getD}
 use Rattle.block.specs.Bits.{sumBelow}
-use Rattle.network.specs.inner.Levels.{Made, made, levelMade, levelAt, levelFrom, levelsMade}
+use Rattle.network.specs.Levels.{Made, made, levelMade, levelAt, levelFrom, levelsMade}
 use Rattle.network.proofs.Entries.{level-work, level-cells}
 
 module _ (m : ℕ) (entries counts : List ℕ) where

@@ -4,8 +4,8 @@
 use mathlib.Core.Path.{_≡_, refl, sym, ap, _∙_, subst}
 use mathlib.Core.Bool.{true}
 use mathlib.Core.List.{List, [], _∷_, _++_}
-use Prim.Native.Nat.{ℕ, zero, suc, _+_, _*_, _-_, _≤_, _<_}
-use native.Mathlib.Nat.{add-zero, sub-zero, not-suc-le-zero, le-of-suc-le-suc}
+use Prim.Native.Nat.{ℕ, zero, suc, _+_, _*_, _≤_, _<_, suc-le-suc, zero-le}
+use native.Mathlib.Nat.{add-zero, not-suc-le-zero, le-of-suc-le-suc}
 use native.Mathlib.Omega.{arith}
 use lib.ListN.{length, getD, length-append}
 use lib.Seq.{sets}
@@ -15,10 +15,13 @@ use Rattle.diagram.specs.inner.Trace.{differing, entryNodes, tracedRefs, traced
 use Rattle.diagram.proofs.Rising.{AllValid}
 use Rattle.block.specs.Bits.{sumBelow}
 use Rattle.fill.specs.Work.{allLinks}
+use Rattle.fill.specs.Counts.{differingPairs}
+use Rattle.fill.proofs.Counting.LinkPairs.{Links, pairs-there}
 use Rattle.lent.specs.Lent.{numbersOf}
-use Rattle.network.specs.inner.Levels.{Made, made, levelMade, levelAt, levelsMade}
-use Rattle.network.proofs.Words.{Outside, outside-none, outside-join, sets-append}
-use Rattle.network.proofs.LinkRefs.{Links, Slots, links-kept, links-split}
+use Rattle.network.specs.Levels.{Made, made, levelMade, levelAt, levelsMade}
+use Rattle.network.proofs.Words.{sets-append}
+use Rattle.network.proofs.AnyLinks.{levels-outside}
+use Rattle.network.proofs.LinkRefs.{Slots, links-kept, links-split}
 use Rattle.network.proofs.LevelRead.{pairsOf, pairs-half, refs-length, nodes-length, LevelRead, level-read}
 use Rattle.network.proofs.LevelTurns.{levels-work}
 use Rattle.network.proofs.Offsets.{at-rises}
@@ -54,7 +57,6 @@ module _ (m : ℕ) (entries counts : List ℕ) where
   pub record LevelsRead (p : ℕ) (lss : List (List Link)) (s t : Made) : Type 0 where
     pub slots : Slots (t .work) (levelAt m entries p) (tracedRefs true (C p) lss)
     pub stored : t .cells ≡ sets (s .cells) (3 * C p) (numbersOf (tracedNodes true p (C p) lss))
-    pub outside : Outside (s .work) (t .work) (levelAt m entries p) (levelAt m entries (p + length lss))
 
   -- where the levels below begin
   lower-read : {X : Type 0} (ls : List Link) (lss : List (List Link)) (p : ℕ) (s : Made) → Sized p (ls ∷ lss)
@@ -92,7 +94,8 @@ module _ (m : ℕ) (entries counts : List ℕ) where
     read =
         subst (λ e. LevelRead p (levelAt m entries p) refs ls u (levelMade p (levelAt m entries (suc p)) (levelAt m entries p) e u)) half
         (level-read p (levelAt m entries (suc p)) refs ls (levelAt m entries p) u
-        (links-kept (s .work) (t .work) (levelAt m entries p) ls (λ j a b. lower .outside .under j (omega (arith, size .0)))
+        (links-kept (s .work) (t .work) (levelAt m entries p) ls
+        (λ j a b. levels-outside m entries counts (suc p) (length lss) s .under j (omega (arith, size .0)))
         (links-split (s .work) (levelAt m entries p) ls (allLinks lss) held .0))
         (subst (λ b. Slots (t .work) (levelAt m entries (suc p)) (tracedRefs true b lss)) next-base (lower .slots))
         (subst (λ n. AllValid true n ls) (sym (traced-length (C p + differing ls) lss)) (size .2))
@@ -120,44 +123,47 @@ module _ (m : ℕ) (entries counts : List ℕ) where
 
     levels-step : LevelsRead p (ls ∷ lss) s (levelsMade m entries counts p (suc (length lss)) s)
     unfolding tracedRefs tracedNodes levelsMade
-    levels-step =
-        record {
-          slots = read .slots;
-          stored = stored-all;
-          outside =
-              let k : suc p + length lss ≡ p + suc (length lss) = omega arith in
-              outside-join (omega arith) (omega arith) (omega (arith, ap (levelAt m entries) k))
-              (omega (arith, half, at-rises m entries (suc p) (p + suc (length lss)) (omega arith))) (lower .outside) (read .outside);
-        }
-
-    -- the next index after the level
-    step-next : levelsMade m entries counts p (suc (length lss)) s .next ≡ C (suc p)
-    unfolding levelsMade
-    step-next = read .counted ∙ sym next-base
+    levels-step = record { slots = read .slots; stored = stored-all }
 
   pub levels-read : (lss : List (List Link)) (p : ℕ) (s : Made) → Sized p lss → Links (s .work) (levelAt m entries p) (allLinks lss)
       → levelAt m entries (p + length lss) ≤ length (s .work) → LevelsRead p lss s (levelsMade m entries counts p (length lss) s)
   unfolding tracedRefs tracedNodes levelsMade
-  levels-read [] p s size held long =
-      record { slots = tt; stored = refl; outside = outside-none (s .work) (levelAt m entries p) (levelAt m entries (p + 0)) }
+  levels-read [] p s size held long = record { slots = tt; stored = refl }
   levels-read (ls ∷ lss) p s size held long =
       levels-step p ls lss s size held long (lower-read ls lss p s size held long (levels-read lss (suc p) s))
 
-  -- where the levels from p + q on are read, the next index is that behind level p + q
-  pub levels-next : (lss : List (List Link)) (p : ℕ) (s : Made) → Sized p lss → Links (s .work) (levelAt m entries p) (allLinks lss)
-      → levelAt m entries (p + length lss) ≤ length (s .work) → (q : ℕ) → q < length lss
-      → levelsMade m entries counts (p + q) (length lss - q) s .next ≡ C (suc (p + q))
-  levels-next [] p s size held long q h = absurd (not-suc-le-zero h)
-  levels-next (ls ∷ lss) p s size held long zero h =
-      subst (λ x. levelsMade m entries counts x (suc (length lss) - 0) s .next ≡ C (suc x)) (sym (add-zero p))
-      (subst (λ k. levelsMade m entries counts p k s .next ≡ C (suc p)) (sym (sub-zero (suc (length lss))))
-      (step-next p ls lss s size held long (lower-read ls lss p s size held long (levels-read lss (suc p) s))))
-  levels-next (ls ∷ lss) p s size held long (suc q) h =
+  -- links that differ, of level q of those from p on: two an entry
+  pub links-counted : (w : List ℕ) (lss : List (List Link)) (p : ℕ)
+      → ((q : ℕ) → q < length lss → length (getD lss q []) ≡ 2 * getD entries (p + q) 0) → Links w (levelAt m entries p) (allLinks lss)
+      → (q : ℕ) → q < length lss → differingPairs w (levelAt m entries (p + q)) (getD entries (p + q) 0) ≡ differing (getD lss q [])
+  links-counted w [] p f held q h = absurd (not-suc-le-zero h)
+  links-counted w (ls ∷ lss) p f held zero h =
+      let e = f 0 h in
+      pairs-there w (levelAt m entries (p + 0)) (getD entries (p + 0) 0) ls (omega (arith, e))
+      (subst (λ x. Links w (levelAt m entries x) ls) (sym (add-zero p)) (links-split w (levelAt m entries p) ls (allLinks lss) held .0))
+  links-counted w (ls ∷ lss) p f held (suc q) h =
       let k : suc p + q ≡ p + suc q = omega arith in
-      let e : length lss - q ≡ suc (length lss) - suc q = omega arith in
-      subst (λ x. levelsMade m entries counts x (suc (length lss) - suc q) s .next ≡ C (suc x)) k
-      (subst (λ x. levelsMade m entries counts (suc p + q) x s .next ≡ C (suc (suc p + q))) e
-      (lower-read ls lss p s size held long (levels-next lss (suc p) s) q (le-of-suc-le-suc h)))
+      let first : length ls ≡ 2 * getD entries p 0 = f 0 (suc-le-suc zero-le) ∙ ap (λ x. 2 * getD entries x 0) (add-zero p) in
+      let e : levelAt m entries p + 2 * length ls ≡ levelAt m entries (suc p) = omega (arith, first) in
+      subst (λ x. differingPairs w (levelAt m entries x) (getD entries x 0) ≡ differing (getD lss q [])) k
+      (links-counted w lss (suc p)
+      (λ j l. let i : p + suc j ≡ suc p + j = omega arith in f (suc j) (suc-le-suc l) ∙ ap (λ x. 2 * getD entries x 0) i)
+      (subst (λ i. Links w i (allLinks lss)) e (links-split w (levelAt m entries p) ls (allLinks lss) held .1)) q (le-of-suc-le-suc h))
+
+  sized-at : (lss : List (List Link)) (p : ℕ) → Sized p lss → (q : ℕ) → q < length lss
+      → (length (getD lss q []) ≡ 2 * getD entries (p + q) 0) × (getD counts (p + q) 0 ≡ differing (getD lss q []))
+  sized-at [] p size q h = absurd (not-suc-le-zero h)
+  sized-at (ls ∷ lss) p size zero h = rw (add-zero p) (size .0, size .1)
+  sized-at (ls ∷ lss) p size (suc q) h =
+      let k : suc p + q ≡ p + suc q = omega arith in
+      subst (λ x. (length (getD lss q []) ≡ 2 * getD entries x 0) × (getD counts x 0 ≡ differing (getD lss q []))) k
+      (sized-at lss (suc p) (size .3) q (le-of-suc-le-suc h))
+
+  -- the counts are those of the links
+  pub sized-counts : (w : List ℕ) (lss : List (List Link)) (p : ℕ) → Sized p lss → Links w (levelAt m entries p) (allLinks lss)
+      → (q : ℕ) → q < length lss → getD counts (p + q) 0 ≡ differingPairs w (levelAt m entries (p + q)) (getD entries (p + q) 0)
+  sized-counts w lss p size held q h =
+      sized-at lss p size q h .1 ∙ sym (links-counted w lss p (λ j l. sized-at lss p size j l .0) held q h)
 
   -- where the links end, and how many nodes there are
   pub sized-end : (lss : List (List Link)) (p : ℕ) → Sized p lss

@@ -1,3 +1,4 @@
+pub mod AnyLinks
 pub mod BuildCases
 pub mod Entries
 pub mod HeldRead
@@ -9,6 +10,7 @@ pub mod LevelsRead
 pub mod LinkRefs
 pub mod Offsets
 pub mod Outcomes
+pub mod ReadCases
 pub mod RootTurns
 pub mod TraceRead
 pub mod TraceSized
@@ -16,5 +18,4 @@ pub mod Words
 pub mod WorkLinks
 pub mod BuiltCanonical
 pub mod BuiltRows
-pub mod Swapping
 pub mod FreeRows

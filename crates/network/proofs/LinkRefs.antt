@@ -1,7 +1,7 @@
 -- Link numbers and references: the opposite of a reference by its low bit, and what a link's number stands for.
 -- Assumes nothing.
-use mathlib.Core.Path.{_≡_, refl, sym, ap, ap₂, _∙_, subst}
-use mathlib.Core.Bool.{Bool, true, false, Bool·beq}
+use mathlib.Core.Path.{_≡_, sym, ap, ap₂, _∙_, subst}
+use mathlib.Core.Bool.{Bool, true, false}
 use mathlib.Core.List.{List, [], _∷_, _++_, map}
 use Prim.Native.Nat.{ℕ, zero, suc, _+_, _*_, _-_, _/_, _%_, _≤_, _<_}
 use native.Mathlib.Nat.{add-zero, le-of-suc-le-suc, not-suc-le-zero}
@@ -13,12 +13,13 @@ use lib.ListN.{length, getD}
 use Rattle.diagram.specs.Lists.{digit}
 use Rattle.diagram.specs.Fill.{Link, const, entry}
 use Rattle.diagram.specs.Diagram.{inverts}
-use Rattle.diagram.specs.inner.Trace.{opposite, sameLink, linkRef}
-use Rattle.diagram.proofs.Bools.{split, to-T, beq→eq}
+use Rattle.diagram.specs.inner.Trace.{opposite, linkRef}
+use Rattle.diagram.proofs.Bools.{split}
 use Rattle.diagram.proofs.Rising.{Valid, AllValid}
 use Rattle.diagram.proofs.Bits.{digit-le, eqb-digit}
 use Rattle.matching.specs.Links.{linkNumber}
-use Rattle.network.specs.inner.Levels.{storedAt, refAt}
+use Rattle.fill.proofs.Counting.LinkPairs.{Links}
+use Rattle.network.specs.Levels.{storedLimit, storedAt, refAt}
 use Rattle.network.proofs.Words.{same-word}
 
 -- the opposite of a reference
@@ -31,6 +32,11 @@ opposite-odd odd r e h = rw (e, eq-eqb (r % 2) 1 h)
 
 pub opposite-even : (odd : Bool) (r : ℕ) → odd ≡ true → (r % 2 ≡ 1 → ⊥) → opposite odd r ≡ r + 1
 opposite-even odd r e h = rw (e, ne-eqb (r % 2) 1 h, add-one)
+
+pub opposite-small : (odd : Bool) (r : ℕ) → r < storedLimit → opposite odd r < storedLimit
+opposite-small false r h = h
+opposite-small true r h =
+    split (eqb (r % 2) 1) (λ e. rw e (omega (arith, eqb-true (r % 2) 1 e))) (λ e. rw e (omega (arith, eqb-false (r % 2) 1 e)))
 
 -- what a link number stands for
 
@@ -53,33 +59,7 @@ number-odd k i =
 number-index : (k : ℕ) (i : Bool) → linkNumber (entry k i) / 2 - 1 ≡ k
 number-index k i = omega (arith, digit-le i)
 
--- different links have different numbers
-
-digits-same : (i j : Bool) → eqb (digit i) (digit j) ≡ Bool·beq i j
-digits-same true true = refl
-digits-same true false = refl
-digits-same false true = refl
-digits-same false false = refl
-
-pub numbers-same : (k l : Link) → eqb (linkNumber k) (linkNumber l) ≡ sameLink k l
-numbers-same (const v) (const w) = digits-same v w
-numbers-same (const v) (entry l j) = ne-eqb (digit v) (2 * suc l + digit j) (λ e. omega (arith, digit-le v))
-numbers-same (entry k i) (const w) = ne-eqb (2 * suc k + digit i) (digit w) (λ e. omega (arith, digit-le w))
-numbers-same (entry k i) (entry l j) =
-    split (eqb k l)
-    (λ e. rw e (split (Bool·beq i j)
-    (λ q. rw q (eq-eqb (2 * suc k + digit i) (2 * suc l + digit j)
-    (ap₂ (λ x y. 2 * suc x + digit y) (eqb-true k l e) (beq→eq i j (to-T q)))))
-    (λ q. rw q (ne-eqb (2 * suc k + digit i) (2 * suc l + digit j)
-    (λ a. let k≡l = eqb-true k l e in eqb-false (digit i) (digit j) (digits-same i j ∙ q) (omega arith))))))
-    (λ e. rw e (ne-eqb (2 * suc k + digit i) (2 * suc l + digit j)
-    (λ a. eqb-false k l e (omega (arith, digit-le i, digit-le j)))))
-
--- links in the work buffer from byte i on, and references every four bytes
-
-abbrev pub Links : List ℕ → ℕ → List Link → Type 0
-Links w i [] = Unit {0}
-Links w i (k ∷ ks) = (storedAt w i ≡ linkNumber k) × Links w (i + 2) ks
+-- references in the work buffer every four bytes from byte i on
 
 abbrev pub Slots : List ℕ → ℕ → List ℕ → Type 0
 Slots w i [] = Unit {0}

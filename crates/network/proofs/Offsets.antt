@@ -9,7 +9,7 @@ use native.Mathlib.Omega.{arith}
 use lib.ListN.{getD}
 use Rattle.block.specs.Bits.{sumBelow}
 use Rattle.fill.specs.Work.{linksAt}
-use Rattle.network.specs.inner.Levels.{levelAt}
+use Rattle.network.specs.Levels.{levelAt}
 
 pub sum-more : (f : ℕ → ℕ) (p : ℕ) → sumBelow f (p + 1) ≡ sumBelow f p + f p
 sum-more f p = rw add-one

@@ -5,7 +5,7 @@ use mathlib.Core.List.{List}
 use Prim.Native.Nat.{ℕ, _+_, _*_, _≤_, _<_}
 use borrow.Author.Tests.{lt-ltb, le-ltb}
 use Rattle.fill.specs.Work.{linksAt}
-use Rattle.network.specs.inner.Levels.{storedAt, refAt, rootAt}
+use Rattle.network.specs.Levels.{storedAt, refAt, rootAt}
 
 pub root-past : (work : List ℕ) (m below j : ℕ) → m ≤ j → rootAt work m below j ≡ 0
 unfolding rootAt

@@ -4,7 +4,7 @@
 use mathlib.Core.Path.{_≡_, refl, sym, ap, _∙_, subst}
 use mathlib.Core.Bool.{true}
 use mathlib.Core.List.{List, [], _++_, map}
-use Prim.Native.Nat.{ℕ, suc, _+_, _*_, _-_, _≤_, _<_}
+use Prim.Native.Nat.{ℕ, _+_, _*_, _-_, _≤_, _<_}
 use native.Mathlib.Nat.{zero-add}
 use native.Mathlib.Omega.{arith}
 use borrow.Author.Tests.{ltb-true, ltb-false}
@@ -28,12 +28,16 @@ use Rattle.diagram.proofs.UpTo.{length-map-upTo, map-upTo-cong}
 use Rattle.block.specs.Bits.{sumBelow}
 use Rattle.table.specs.Calls.{over}
 use Rattle.fill.specs.Work.{workSize, linksAt, allLinks, zeroWork, clearedWork}
+use Rattle.fill.specs.Counts.{differingPairs}
 use Rattle.fill.proofs.Room.LinksRoom.{linksLimit, links-room}
 use Rattle.fill.proofs.Buffers.Sizes.{work-size}
+use Rattle.fill.proofs.Counting.LinkPairs.{Links}
 use Rattle.lent.specs.Lent.{numbersOf, rootsSize}
-use Rattle.network.specs.inner.Levels.{Made, made, levelAt, levelsMade, rootAt}
-use Rattle.network.proofs.LinkRefs.{Links, links-kept, links-split, links-refs}
-use Rattle.network.proofs.LevelsRead.{traced-length, Sized, LevelsRead, levels-read, levels-next, sized-end, sized-nodes}
+use Rattle.network.specs.Levels.{Made, made, levelAt, levelsMade, rootAt}
+use Rattle.network.proofs.Words.{Outside}
+use Rattle.network.proofs.AnyLinks.{levels-outside, levels-counted}
+use Rattle.network.proofs.LinkRefs.{links-kept, links-split, links-refs}
+use Rattle.network.proofs.LevelsRead.{traced-length, Sized, LevelsRead, levels-read, sized-counts, sized-end, sized-nodes}
 use Rattle.network.proofs.LevelsRead.{numbers-length}
 use Rattle.network.proofs.LevelTurns.{levels-work}
 use Rattle.network.proofs.Offsets.{links-at, first-at, sum-below}
@@ -81,6 +85,19 @@ module _ (t : Table) (order : List ℕ) where
   unfolding cost count networkOf network
   cost-nodes = refl
 
+  -- where the links stand, those of the outputs come first
+  module _ (w : List ℕ) (held : Links w linksAt (allLinks kss)) where
+    links-all : Links w linksAt (linksOf true drawn ++ allLinks lss)
+    links-all = subst (λ (l : List (List Link)). Links w linksAt (allLinks l)) (trace-lower true (t .n) drawn) held
+
+    links-outputs : Links w linksAt (linksOf true drawn)
+    links-outputs = links-split w linksAt (linksOf true drawn) (allLinks lss) links-all .0
+
+    pub links-levels : (entries : List ℕ) → Links w (levelAt (t .m) entries 0) (allLinks lss)
+    links-levels entries =
+        let e : linksAt + 2 * length (linksOf true drawn) ≡ levelAt (t .m) entries 0 = omega (arith, outputs-length) in
+        subst (λ i. Links w i (allLinks lss)) e (links-split w linksAt (linksOf true drawn) (allLinks lss) links-all .1)
+
   module _ (few : t .n ≤ mostVariables) (few′ : t .m ≤ mostOutputs) where
     -- the links have room in the work buffer
     pub trace-room : length (allLinks kss) ≤ linksLimit
@@ -119,17 +136,6 @@ module _ (t : Table) (order : List ℕ) where
         abbrev pub readMade : Made
         readMade = levelsMade (t .m) entries counts 0 (t .n) (made w cells 0)
 
-        links-all : Links w linksAt (linksOf true drawn ++ allLinks lss)
-        links-all = subst (λ (l : List (List Link)). Links w linksAt (allLinks l)) (trace-lower true (t .n) drawn) held
-
-        links-outputs : Links w linksAt (linksOf true drawn)
-        links-outputs = links-split w linksAt (linksOf true drawn) (allLinks lss) links-all .0
-
-        links-levels : Links w (levelAt (t .m) entries 0) (allLinks lss)
-        links-levels =
-            let e : linksAt + 2 * length (linksOf true drawn) ≡ levelAt (t .m) entries 0 = omega (arith, outputs-length) in
-            subst (λ i. Links w i (allLinks lss)) e (links-split w linksAt (linksOf true drawn) (allLinks lss) links-all .1)
-
         levels-within : levelAt (t .m) entries (0 + length lss) ≤ workSize
         levels-within = omega (arith, ap (levelAt (t .m) entries) levels-length, read-end)
 
@@ -139,18 +145,21 @@ module _ (t : Table) (order : List ℕ) where
         read : LevelsRead (t .m) entries counts 0 lss (made w cells 0) readMade
         read =
             subst (λ k. LevelsRead (t .m) entries counts 0 lss (made w cells 0) (levelsMade (t .m) entries counts 0 k (made w cells 0)))
-            (lower-length (t .n) drawn) (levels-read (t .m) entries counts lss 0 (made w cells 0) sized links-levels levels-long)
+            (lower-length (t .n) drawn) (levels-read (t .m) entries counts lss 0 (made w cells 0) sized (links-levels w held entries) levels-long)
 
         -- no level's nodes come behind the last
         pub read-next : (q : ℕ) → q < t .n → levelsMade (t .m) entries counts q (t .n - q) (made w cells 0) .next ≤ cost t order
         read-next q h =
-            let C : ℕ → ℕ = sumBelow (λ r. getD counts r 0) in
-            let e = levels-next (t .m) entries counts lss 0 (made w cells 0) sized links-levels levels-long q
-            (subst (λ k. q < k) (sym (lower-length (t .n) drawn)) h) in
-            let e′ : levelsMade (t .m) entries counts q (t .n - q) (made w cells 0) .next ≡ C (suc q) =
-            subst (λ n. levelsMade (t .m) entries counts q (n - q) (made w cells 0) .next ≡ C (suc q)) (lower-length (t .n) drawn)
-            (subst (λ x. levelsMade (t .m) entries counts x (length lss - q) (made w cells 0) .next ≡ C (suc x)) (zero-add q) e) in
-            omega (arith, e′, read-total, sum-below (λ r. getD counts r 0) q (t .n) h)
+            let l = lower-length (t .n) drawn in
+            let e = sized-counts (t .m) entries counts w lss 0 sized (links-levels w held entries) q (subst (λ k. q < k) (sym l) h) in
+            let e′ : getD counts q 0 ≡ differingPairs w (levelAt (t .m) entries q) (getD entries q 0) =
+            subst (λ x. getD counts x 0 ≡ differingPairs w (levelAt (t .m) entries x) (getD entries x 0)) (zero-add q) e in
+            omega (
+              arith,
+              levels-counted (t .m) entries counts q (made w cells 0) e′ (t .n) h,
+              read-total,
+              sum-below (λ r. getD counts r 0) q (t .n) h,
+            )
 
         -- the cells have the network's nodes, and are as they were past them
         pub read-cells : 3 * cost t order ≤ length cells
@@ -161,13 +170,17 @@ module _ (t : Table) (order : List ℕ) where
             read .stored ∙ ap (λ (l : List Node). sets cells 0 (numbersOf l)) (sym network-nodes)
             ∙ sets-eq (numbersOf ns) cells 0 (omega arith) ∙ ap (λ k. numbersOf ns ++ drop k cells) e
 
+        -- the bytes that are written lie among the levels' links
+        outside : Outside w (readMade .work) (levelAt (t .m) entries 0) (levelAt (t .m) entries (0 + t .n))
+        outside = levels-outside (t .m) entries counts 0 (t .n) (made w cells 0)
+
         -- the work buffer cleared afterwards
         pub read-work : clearedWork (readMade .work) ≡ zeroWork work
         read-work =
             let same : length (readMade .work) ≡ length w = levels-work (t .m) entries counts 0 (t .n) (made w cells 0) in
             clear-zero (readMade .work) work (omega (arith, long))
-            (past-same w (readMade .work) (levelAt (t .m) entries 0) (levelAt (t .m) entries (0 + length lss)) workSize same levels-within
-            (read .outside)
+            (past-same w (readMade .work) (levelAt (t .m) entries 0) (levelAt (t .m) entries (0 + t .n)) workSize same
+            (omega (arith, ap (levelAt (t .m) entries) (zero-add (t .n)), read-end)) outside
             ∙ past)
 
         -- the roots
@@ -175,7 +188,7 @@ module _ (t : Table) (order : List ℕ) where
         links-kept-outputs : Links (readMade .work) linksAt (linksOf true drawn)
         links-kept-outputs =
             links-kept w (readMade .work) linksAt (linksOf true drawn)
-            (λ j a b. read .outside .under j (omega (arith, outputs-length))) links-outputs
+            (λ j a b. outside .under j (omega (arith, outputs-length))) (links-outputs w held)
 
         root-given : (j : ℕ) → rootAt (readMade .work) (t .m) (levelAt (t .m) entries 0) j ≡ getD (networkOf true t order .roots) j 0
         root-given j =

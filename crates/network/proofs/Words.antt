@@ -8,7 +8,7 @@ use native.Mathlib.Nat.{add-zero}
 use native.Mathlib.Omega.{arith}
 use lib.ListN.{length, getD, set, length-set}
 use lib.Seq.{sets, getD-set-same, getD-set-other, set-comm}
-use Rattle.network.specs.inner.Levels.{storedAt, putStored}
+use Rattle.network.specs.Levels.{storedAt, putStored}
 
 -- the bytes below a and from b on are the same
 pub record Outside (w w′ : List ℕ) (a b : ℕ) : Type 0 where

@@ -1,4 +1,3 @@
-pub mod AsBuilt
 pub mod Build
-pub mod inner
-pub mod Swap
+pub mod Levels
+pub mod Reading

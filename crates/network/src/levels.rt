@@ -14,7 +14,7 @@ ghost use Rattle.diagram.specs.Bound.{mostVariables, mostOutputs};
 ghost use Rattle.block.specs.Bits.{sumBelow};
 ghost use Rattle.fill.specs.Work.{workSize};
 ghost use Rattle.block.specs.Numbers.{numberLimit};
-ghost use Rattle.network.specs.inner.Levels.{storedLimit, made, entryMade, levelMade, levelAt, levelsMade};
+ghost use Rattle.network.specs.Levels.{storedLimit, made, entryMade, levelMade, levelAt, levelsMade};
 
 // Puts the node with index k.
 fn put_node(cells: &mut [u16], k: usize, level: usize, low: usize, high: usize)

@@ -1,9 +1,6 @@
-// Making networks in lent cells: building one (document 01, section 4), and swapping two levels of a held one (document 02, 2.7).
+// Making networks in lent cells (document 01, section 4): building one, and reading one off links in the work buffer.
 pub mod build;
-mod exchange;
 mod levels;
-mod links;
-mod pairs;
+pub mod links;
+pub mod reading;
 mod roots;
-mod seen;
-pub mod swap;

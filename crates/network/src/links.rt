@@ -5,7 +5,7 @@ ghost use Prim.Native.Nat.{_+_, _*_, _<_, _≤_};
 ghost use lib.ListN.{length};
 ghost use Rattle.diagram.specs.inner.Trace.{opposite};
 ghost use Rattle.fill.specs.Work.{workSize};
-ghost use Rattle.network.specs.inner.Levels.{storedLimit, storedAt, putStored, refAt};
+ghost use Rattle.network.specs.Levels.{storedLimit, storedAt, putStored, refAt};
 
 // The number at byte i.
 pub(crate) fn stored_at(work: &[u8], i: usize) -> usize
@@ -27,9 +27,8 @@ pub(crate) fn put_stored(work: &mut [u8], i: usize, x: usize)
 }
 
 // The reference to the inverse, where odd is true.
-pub(crate) fn turned(r: usize, odd: bool) -> usize
-    requires { ⌜ r < storedLimit ⌝ }
-    ensures { λ q. ⌜ (q ≡ opposite odd r) × (q < storedLimit) ⌝ }
+pub fn turned(r: usize, odd: bool) -> usize
+    ensures { λ q. ⌜ q ≡ opposite odd r ⌝ }
 {
     if !odd {
         return r;

@@ -10,7 +10,7 @@ ghost use Rattle.diagram.specs.Bound.{mostOutputs};
 ghost use Rattle.table.specs.Calls.{over};
 ghost use Rattle.fill.specs.Work.{workSize};
 ghost use Rattle.lent.specs.Lent.{rootsSize};
-ghost use Rattle.network.specs.inner.Levels.{storedLimit, rootAt};
+ghost use Rattle.network.specs.Levels.{storedLimit, rootAt};
 
 // The root of output j, of m; zero past them.
 fn root_of(work: &[u8], m: usize, below: usize, j: usize) -> usize

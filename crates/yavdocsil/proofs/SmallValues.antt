@@ -42,7 +42,7 @@ use Rattle.lent.specs.Evaluate.{goodCells, rowOutputs, evaluateAnswer}
 use Rattle.lent.specs.Rows.{rowsAnswer}
 use Rattle.lent.proofs.Answered.{network-held}
 use Rattle.network.specs.Build.{wanted, capacity, longEnough, buildAnswer, buildOutcome}
-use Rattle.network.specs.Swap.{cellTable, exchangedOrder, swappedCount, swapChecks, swapCellsAnswer, swapCellsOutcome}
+use Rattle.swapping.specs.Swap.{cellTable, exchangedOrder, swappedCount, swapChecks, swapCellsAnswer, swapCellsOutcome}
 use Rattle.network.proofs.HeldRead.{few-nodes, few-wanted}
 use Rattle.canonical.specs.Canonical.{canonicalAnswer}
 use Rattle.cellfile.specs.File.{countAt, rootsAt, fileCount, fileDiagram, cellBlocks, carriedNumbers}

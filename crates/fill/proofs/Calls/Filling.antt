@@ -32,7 +32,7 @@ use Rattle.matching.specs.Level.{partsAt, written}
 use Rattle.reorder.specs.Gather.{rowMap, gatheredPart}
 use Rattle.fill.specs.Calls.{perLevel, entryCounts}
 use Rattle.fill.specs.inner.Descent.{linksBelow, countsBelow, roomy, holding, linksUpTo}
-use Rattle.fill.specs.inner.Counts.{countsAt, linksEnd}
+use Rattle.fill.specs.Counts.{countsAt, linksEnd}
 use Rattle.reorder.proofs.Gathered.{gathered-encode}
 use Rattle.fill.proofs.Buffers.Sizes.{sizes}
 use Rattle.matching.proofs.Linking.TreeLevel.{levelPart, level-bytes}

@@ -21,7 +21,7 @@ use Rattle.fill.specs.Work.{workSize, linksAt, allLinks, zeroWork}
 use Rattle.matching.specs.Level.{partsAt}
 use Rattle.fill.specs.Calls.{heldTable, drawnOutputs, perLevel}
 use Rattle.fill.specs.inner.Descent.{linksBelow, countsBelow, roomy, holding, linksUpTo}
-use Rattle.fill.specs.inner.Counts.{countsAt, linksEnd}
+use Rattle.fill.specs.Counts.{countsAt, linksEnd}
 use Rattle.fill.specs.inner.Filling.{firstWork, filledWork, filledLevels}
 use Rattle.fill.proofs.Buffers.Sizes.{sizes}
 use Rattle.fill.proofs.Buffers.HeldParts.{held-cleared, held-trace}

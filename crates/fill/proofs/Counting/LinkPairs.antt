@@ -1,18 +1,20 @@
--- The links of the levels below, counted from their bytes: links as numbers are equal exactly when the links are, and they fit two bytes.
+-- Links in the work buffer, and those of the levels below, counted: links as numbers are equal exactly when the links are, and they fit two
+-- bytes.
 -- Assumes nothing.
 use mathlib.Core.Path.{_≡_, refl, sym, ap, ap₂, _∙_, subst}
-use mathlib.Core.Bool.{Bool, true, false, not, cond, Bool·beq, _&&_}
+use mathlib.Core.Bool.{Bool, true, false, not, cond, Bool·beq}
 use mathlib.Core.List.{List, [], _∷_, _++_, map, append-assoc}
-use Prim.Native.Nat.{ℕ, zero, suc, _+_, _*_, _/_, _%_, _≤_, _<_}
+use Prim.Native.Nat.{ℕ, zero, suc, _+_, _*_, _%_, _≤_, _<_}
 use native.Mathlib.Nat.{mul-le-mul-left, suc-ne-zero, zero-add, add-zero}
 use native.Mathlib.Omega.{arith}
-use lib.Dec.{T, eqb, eqb→eq, eqb-refl}
+use borrow.Author.Tests.{eq-eqb, ne-eqb, eqb-true, eqb-false}
+use lib.Dec.{T, eqb}
 use lib.ListN.{length, getD, drop}
 use lib.Seq.{drop-drop, drop-at, getD-drop}
 use Rattle.diagram.specs.Lists.{digit}
 use Rattle.diagram.specs.Fill.{Link, const, entry}
 use Rattle.diagram.specs.inner.Trace.{sameLink, differing}
-use Rattle.diagram.proofs.Bools.{split, both-ways, and-T, and-l, and-r, beq→eq, beq-refl}
+use Rattle.diagram.proofs.Bools.{split, to-T, beq→eq}
 use Rattle.diagram.proofs.Bits.{digit-le}
 use Rattle.block.specs.Bits.{sumBelow}
 use Rattle.block.proofs.Sums.{sum-add, sum-cong}
@@ -21,53 +23,38 @@ use Rattle.matching.specs.Parts.{alwaysPart, agreePart, alongParts, candidatePa
 use Rattle.matching.specs.Links.{regionSize, linkNumber, linkBytes}
 use Rattle.fill.specs.Work.{allLinks}
 use Rattle.fill.specs.inner.Descent.{levelBelow, linksBelow, countsBelow, roomy}
-use Rattle.fill.specs.inner.Counts.{pairDiffers, differingPairs, countsAt, linksEnd}
+use Rattle.fill.specs.Counts.{linkAt, pairDiffers, differingPairs, countsAt, linksEnd}
 use Rattle.matching.proofs.Parts.PartHalves.{width-pos}
 use Rattle.matching.proofs.Buffers.PartLengths.{Long, length-links, candidate-grown, level-grown, long-offered}
 use Rattle.fill.proofs.Descents.LevelsBelow.{links-suc, counts-suc, bytes-suc, links-two, links-length, Room, room-suc, level-fits}
 
--- numbers of links
+-- different links have different numbers
 
-digit-injective : (a b : Bool) → digit a ≡ digit b → a ≡ b
-digit-injective true true e = refl
-digit-injective true false e = absurd (suc-ne-zero 0 e)
-digit-injective false true e = absurd (suc-ne-zero 0 (sym e))
-digit-injective false false e = refl
+digits-same : (i j : Bool) → eqb (digit i) (digit j) ≡ Bool·beq i j
+digits-same true true = refl
+digits-same true false = refl
+digits-same false true = refl
+digits-same false false = refl
 
-number-same : (k l : Link) → linkNumber k ≡ linkNumber l → T (sameLink k l)
-number-same (const v) (const w) e = subst (λ (b : Bool). T (Bool·beq v b)) (digit-injective v w e) (beq-refl v)
-number-same (const v) (entry l j) e = omega (arith, digit-le v)
-number-same (entry k i) (const w) e = omega (arith, digit-le w)
-number-same (entry k i) (entry l j) e =
-    let p : k ≡ l = omega (arith, digit-le i, digit-le j) in
-    let q : digit i ≡ digit j = omega (arith, digit-le i, digit-le j) in
-    let r = digit-injective i j q in
-    rw (p, r) (and-T (eqb l l) (Bool·beq j j) (eqb-refl l) (beq-refl j))
+pub numbers-same : (k l : Link) → eqb (linkNumber k) (linkNumber l) ≡ sameLink k l
+numbers-same (const v) (const w) = digits-same v w
+numbers-same (const v) (entry l j) = ne-eqb (digit v) (2 * suc l + digit j) (λ e. omega (arith, digit-le v))
+numbers-same (entry k i) (const w) = ne-eqb (2 * suc k + digit i) (digit w) (λ e. omega (arith, digit-le w))
+numbers-same (entry k i) (entry l j) =
+    split (eqb k l)
+    (λ e. rw e (split (Bool·beq i j)
+    (λ q. rw q (eq-eqb (2 * suc k + digit i) (2 * suc l + digit j)
+    (ap₂ (λ x y. 2 * suc x + digit y) (eqb-true k l e) (beq→eq i j (to-T q)))))
+    (λ q. rw q (ne-eqb (2 * suc k + digit i) (2 * suc l + digit j)
+    (λ a. let k≡l = eqb-true k l e in eqb-false (digit i) (digit j) (digits-same i j ∙ q) (omega arith))))))
+    (λ e. rw e (ne-eqb (2 * suc k + digit i) (2 * suc l + digit j)
+    (λ a. eqb-false k l e (omega (arith, digit-le i, digit-le j)))))
 
-same-number : (k l : Link) → T (sameLink k l) → linkNumber k ≡ linkNumber l
-same-number (const v) (const w) t = ap digit (beq→eq v w t)
-same-number (const v) (entry l j) t = absurd t
-same-number (entry k i) (const w) t = absurd t
-same-number (entry k i) (entry l j) t =
-    ap₂ (λ (n : ℕ) (b : Bool). 2 * suc n + digit b) (eqb→eq k l (and-l (eqb k l) (Bool·beq i j) t))
-    (beq→eq i j (and-r (eqb k l) (Bool·beq i j) t))
+-- links in the work buffer from byte i on
 
--- two numbers below 65,536 by their bytes
-bytes-equal : (x y : ℕ) → x < 65536 → y < 65536 → x % 256 ≡ y % 256 → x / 256 % 256 ≡ y / 256 % 256 → x ≡ y
-bytes-equal x y h k p q = omega arith
-
-same-bytes : (k l : Link) → linkNumber k < 65536 → linkNumber l < 65536
-    → (eqb (linkNumber k % 256) (linkNumber l % 256) && eqb (linkNumber k / 256 % 256) (linkNumber l / 256 % 256)) ≡ sameLink k l
-same-bytes k l h j =
-    let x = linkNumber k in
-    let y = linkNumber l in
-    let a = eqb (x % 256) (y % 256) in
-    let b = eqb (x / 256 % 256) (y / 256 % 256) in
-    both-ways (a && b) (sameLink k l)
-    (λ t. number-same k l
-    (bytes-equal x y h j (eqb→eq (x % 256) (y % 256) (and-l a b t)) (eqb→eq (x / 256 % 256) (y / 256 % 256) (and-r a b t))))
-    (λ t. let e = same-number k l t in
-    rw e (and-T (eqb (y % 256) (y % 256)) (eqb (y / 256 % 256) (y / 256 % 256)) (eqb-refl (y % 256)) (eqb-refl (y / 256 % 256))))
+abbrev pub Links : List ℕ → ℕ → List Link → Type 0
+Links w i [] = Unit {0}
+Links w i (k ∷ ks) = (linkAt w i ≡ linkNumber k) × Links w (i + 2) ks
 
 -- links whose numbers are below n
 abbrev pub Under : ℕ → List Link → Type 0
@@ -104,45 +91,44 @@ level-under w gs (f ∷ fs) l m =
     let r = level-grown w (candidatePart w f gs .parts) fs (c .0) (m .1) in
     (omega (arith, candidate-under w f gs, r .1), level-under w (candidatePart w f gs .parts) fs (c .0) (m .1))
 
--- the two links of one entry, from the front of their bytes
-module _ (work : List ℕ) (at : ℕ) where
-  byte-at : (bytes : List ℕ) → drop at work ≡ bytes → (j : ℕ) → getD work (at + j) 0 ≡ getD bytes j 0
-  byte-at bytes e j = sym (getD-drop at work j 0) ∙ ap (λ (y : List ℕ). getD y j 0) e
-
-  pair-links : (k l : Link) (ls : List Link) (rest : List ℕ) → linkNumber k < 65536 → linkNumber l < 65536
-      → drop at work ≡ linkBytes (k ∷ l ∷ ls) ++ rest → pairDiffers work at ≡ not (sameLink k l)
-  unfolding pairDiffers
-  pair-links k l ls rest h j e =
-      let b = linkBytes (k ∷ l ∷ ls) ++ rest in
-      let zero-at : getD work at 0 ≡ linkNumber k % 256 = ap (λ (i : ℕ). getD work i 0) (sym (add-zero at)) ∙ byte-at b e 0 in
-      let test : ℕ → ℕ → ℕ → ℕ → Bool = λ p q r s. not (eqb p q && eqb r s) in
-      ap₂ (λ (p q : ℕ). test p q (getD work (at + 1) 0) (getD work (at + 3) 0)) zero-at (byte-at b e 2)
-      ∙ ap₂ (test (linkNumber k % 256) (linkNumber l % 256)) (byte-at b e 1) (byte-at b e 3)
-      ∙ ap not (same-bytes k l h j)
+-- links whose bytes stand there
+pub bytes-there : (work : List ℕ) (at : ℕ) (ls : List Link) (rest : List ℕ) → Under 65536 ls → drop at work ≡ linkBytes ls ++ rest
+    → Links work at ls
+bytes-there work at [] rest u e = tt
+bytes-there work at (k ∷ ls) rest u e =
+    let byte : (j : ℕ) → getD work (at + j) 0 ≡ getD (linkBytes (k ∷ ls) ++ rest) j 0 =
+    λ j. sym (getD-drop at work j 0) ∙ ap (λ (y : List ℕ). getD y j 0) e in
+    let low : getD work at 0 ≡ linkNumber k % 256 = ap (λ (i : ℕ). getD work i 0) (sym (add-zero at)) ∙ byte 0 in
+    (omega (arith, low, byte 1, u .0), bytes-there work (at + 2) ls rest (u .1) (sym (drop-drop 2 at work) ∙ ap (drop 2) e))
 
 digit-not : (b : Bool) (n : ℕ) → digit (not b) + n ≡ cond b n (suc n)
 digit-not true n = omega arith
 digit-not false n = omega arith
 
 -- the entries of one level
-pub pairs-links : (work : List ℕ) (at k : ℕ) (ls : List Link) (rest : List ℕ) → length ls ≡ k + k → Under 65536 ls
-    → drop at work ≡ linkBytes ls ++ rest → differingPairs work at k ≡ differing ls
-pairs-links work at zero [] rest n u e = refl
-pairs-links work at zero (x ∷ ls) rest n u e = absurd (suc-ne-zero (length ls) n)
-pairs-links work at (suc k) [] rest n u e = let z : _≡_ {A = ℕ} 0 1 = omega arith in absurd (suc-ne-zero 0 (sym z))
-pairs-links work at (suc k) (x ∷ []) rest n u e = let z : _≡_ {A = ℕ} 0 1 = omega arith in absurd (suc-ne-zero 0 (sym z))
-pairs-links work at (suc k) (x ∷ y ∷ ls) rest n u e =
+pub pairs-there : (work : List ℕ) (at k : ℕ) (ls : List Link) → length ls ≡ k + k → Links work at ls → differingPairs work at k ≡ differing ls
+unfolding pairDiffers
+pairs-there work at zero [] n h = refl
+pairs-there work at zero (x ∷ ls) n h = absurd (suc-ne-zero (length ls) n)
+pairs-there work at (suc k) [] n h = let z : _≡_ {A = ℕ} 0 1 = omega arith in absurd (suc-ne-zero 0 (sym z))
+pairs-there work at (suc k) (x ∷ []) n h = let z : _≡_ {A = ℕ} 0 1 = omega arith in absurd (suc-ne-zero 0 (sym z))
+pairs-there work at (suc k) (x ∷ y ∷ ls) n h =
     let f : ℕ → ℕ = λ i. digit (pairDiffers work (at + 4 * i)) in
     let one : suc k ≡ 1 + k = omega arith in
     let here : at + 4 * 0 ≡ at = omega arith in
+    let next : at + 2 + 2 ≡ at + 4 = omega arith in
     ap (sumBelow f) one
     ∙ sum-add f 1 k
-    ∙ ap₂ _+_ (zero-add (f 0) ∙ ap digit (ap (pairDiffers work) here ∙ pair-links work at x y ls rest (u .0) (u .1 .0) e))
+    ∙ ap₂ _+_
+    (zero-add (f 0) ∙ ap digit (ap (pairDiffers work) here ∙ ap not (ap₂ eqb (h .0) (h .1 .0) ∙ numbers-same x y)))
     (sum-cong (λ i. f (1 + i)) (λ i. digit (pairDiffers work (at + 4 + 4 * i))) k
-    (λ i h. let q : at + 4 * (1 + i) ≡ at + 4 + 4 * i = omega arith in ap (λ (a : ℕ). digit (pairDiffers work a)) q)
-    ∙ pairs-links work (at + 4) k ls rest (omega arith) (u .1 .1)
-    (sym (drop-drop 4 at work) ∙ ap (drop 4) e))
+    (λ i l. let q : at + 4 * (1 + i) ≡ at + 4 + 4 * i = omega arith in ap (λ (a : ℕ). digit (pairDiffers work a)) q)
+    ∙ pairs-there work (at + 4) k ls (omega arith) (subst (λ (i : ℕ). Links work i ls) next (h .1 .1)))
     ∙ digit-not (sameLink x y) (differing ls)
+
+pub pairs-links : (work : List ℕ) (at k : ℕ) (ls : List Link) (rest : List ℕ) → length ls ≡ k + k → Under 65536 ls
+    → drop at work ≡ linkBytes ls ++ rest → differingPairs work at k ≡ differing ls
+pairs-links work at k ls rest n u e = pairs-there work at k ls n (bytes-there work at ls rest u e)
 
 -- no level
 counts-none : (work : List ℕ) (at : ℕ) (parts : List (List ℕ))

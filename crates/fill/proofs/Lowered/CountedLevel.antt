@@ -15,7 +15,7 @@ use Rattle.matching.specs.Parts.{flat}
 use Rattle.matching.specs.Splice.{splice}
 use Rattle.matching.specs.Level.{partsAt, written}
 use Rattle.fill.specs.inner.Descent.{levelBelow}
-use Rattle.fill.specs.inner.Counts.{differingPairs}
+use Rattle.fill.specs.Counts.{differingPairs}
 use Rattle.fill.specs.inner.Lowering.{levelLinksAt}
 use Rattle.matching.proofs.Buffers.PartLengths.{Long, length-links}
 use Rattle.matching.proofs.Buffers.Splice.{length-splice}

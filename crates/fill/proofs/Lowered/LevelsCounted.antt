@@ -17,7 +17,7 @@ use Rattle.fill.specs.Work.{workSize, linksAt, trialsSize}
 use Rattle.fill.specs.Calls.{perLevel}
 use Rattle.matching.specs.Level.{partsAt, written}
 use Rattle.fill.specs.inner.Descent.{levelBelow, linksBelow, roomy}
-use Rattle.fill.specs.inner.Counts.{differingPairs}
+use Rattle.fill.specs.Counts.{differingPairs}
 use Rattle.fill.specs.inner.Lowering.{levelLinksAt, countsFrom}
 use Rattle.matching.proofs.Buffers.Chunks.{length-chunks}
 use Rattle.matching.proofs.Buffers.PartLengths.{Long, long-chunks}

@@ -16,7 +16,7 @@ use Rattle.matching.specs.Parts.{LevelParts, chunks, flat}
 use Rattle.matching.specs.Splice.{splice}
 use Rattle.matching.specs.Level.{partsAt, written}
 use Rattle.fill.specs.inner.Descent.{levelBelow, roomy}
-use Rattle.fill.specs.inner.Counts.{differingPairs}
+use Rattle.fill.specs.Counts.{differingPairs}
 use Rattle.matching.specs.Exchange.{exchangedPlane, exchangedPart}
 use Rattle.fill.specs.inner.Lowering.{levelLinksAt, loweredBelow}
 use Rattle.matching.proofs.Parts.PartExchange.{length-exchanged}

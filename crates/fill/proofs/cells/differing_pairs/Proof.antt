@@ -7,7 +7,7 @@ use Prim.Native.Nat.{_-_, _≤_}
 use native.Mathlib.Nat.{le-antisymm, add-zero}
 use native.Mathlib.Omega.{arith}
 use Rattle.diagram.specs.Lists.{digit}
-use Rattle.fill.specs.inner.Counts.{differingPairs}
+use Rattle.fill.specs.Counts.{differingPairs}
 use Rattle.fill.proofs.Counting.CountedCells.{pairs-more}
 use Rattle.fill.proofs.cells.differing_pairs.Statement.{statement}
 use Rattle.fill.proofs.cells.differing_pairs.Tie as tie

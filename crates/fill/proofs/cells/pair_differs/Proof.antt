@@ -1,6 +1,7 @@
 -- `fill::cells::pair_differs` meets its contract. Assumes nothing.
 use borrow.Author.Needs.{needs}
 use denote.Ref.{now}
+use Prim.Native.Nat.{_+_}
 use Rattle.fill.proofs.Counting.CountedCells.{pair-low, pair-high}
 use Rattle.fill.proofs.cells.pair_differs.Statement.{statement}
 use Rattle.fill.proofs.cells.pair_differs.Tie as tie
@@ -17,7 +18,8 @@ shared-slice-read-if1-2 c = search needs
 returns : tie.Need-returns
 returns c =
     let a = c .before .before .before .args in
-    pair-low (now (a .work)) (a .a) (c .if1 .taken)
+    let byte = c .before .before .shared-slice-known .given in
+    pair-low (now (a .work)) (a .a) (byte (a .a) .fits) (byte (a .a + 2) .fits) (c .if1 .taken)
 
 add-result : tie.Need-add-result
 add-result c = search needs

@@ -8,6 +8,7 @@ use native.Mathlib.Nat.{zero-add}
 use native.Mathlib.Omega.{arith}
 use lib.ListN.{drop}
 use Rattle.diagram.specs.Bound.{mostVariables}
+use Rattle.fill.proofs.Buffers.Sizes.{sizes}
 use Rattle.fill.proofs.Counting.CountedCells.{sum-more, sum-all}
 use Rattle.fill.proofs.cells.total.Statement.{statement}
 use Rattle.fill.proofs.cells.total.Tie as tie
@@ -30,7 +31,7 @@ array-read-cells c = search needs
 add-cells : tie.Need-add-cells Inv-loop μ-loop
 add-cells c =
     let l = c .before .loop in
-    omega (arith, sum-more (c .before .before .args .t1) (l .cells) (l .p) (l .inv .1) (omega (arith, c .before .before .good .0 .1)))
+    omega (sizes, sum-more (c .before .before .args .t1) (l .cells) (l .p) (l .inv .1) (omega (arith, c .before .before .good .0 .1)))
 
 add-p : tie.Need-add-p Inv-loop μ-loop
 add-p c = search needs

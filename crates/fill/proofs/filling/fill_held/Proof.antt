@@ -72,9 +72,13 @@ total-requires c κs =
     let a = s .args in
     let r = f .first-level in
     let t = d .descend in
-    cells-room (a .state) (now (a .values)) (now (a .care)) (s .pre .0) (now (a .work)) (s .pre .1)
-    (r .result) (r .last .1 .1 .1 .0) (r .ensures .0)
-    (r .ensures .1) (t .result) (t .last .1 .1 .1 .0) (t .ensures .0) (t .ensures .1) (c .level-counts .result) (c .level-counts .ensures)
+    omega (
+      sizes,
+      cells-room (a .state) (now (a .values)) (now (a .care)) (s .pre .0) (now (a .work)) (s .pre .1)
+          (r .result) (r .last .1 .1 .1 .0) (r .ensures .0)
+          (r .ensures .1) (t .result) (t .last .1 .1 .1 .0) (t .ensures .0) (t .ensures .1) (c .level-counts .result)
+          (c .level-counts .ensures),
+    )
 
 same-length : tie.Need-same-length
 same-length c = search needs

@@ -9,7 +9,7 @@ use Rattle.network.proofs.build.build.Reads as reads
 use Rattle.network.proofs.build.build.Lts as lts
 use Rattle.fill.proofs.clear.Reads as clear-reads
 use Rattle.fill.proofs.links.Reads as links-reads
-use Rattle.network.proofs.build.lay_out.Reads as lay-out-reads
+use Rattle.network.proofs.reading.lay_out.Reads as lay-out-reads
 use Rattle.network.proofs.build.with_network.Reads as with-network-reads
 
 returns : tie.Need-returns

@@ -4,7 +4,7 @@ use mathlib.Core.Path.{_≡_, ap, _∙_}
 use Prim.Native.Nat.{_≤_, _-_}
 use native.Mathlib.Omega.{arith}
 use Rattle.fill.proofs.Buffers.Sizes.{work-size}
-use Rattle.network.specs.inner.Levels.{levelAt}
+use Rattle.network.specs.Levels.{levelAt}
 use Rattle.network.proofs.Offsets.{links-at, first-at, next-at, within}
 use Rattle.network.proofs.levels.links_end.Statement.{statement}
 use Rattle.network.proofs.levels.links_end.Tie as tie

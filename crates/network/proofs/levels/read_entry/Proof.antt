@@ -3,11 +3,13 @@
 use borrow.Author.Needs.{needs}
 use native.Mathlib.Omega.{arith}
 use mathlib.Core.Path.{_≡_}
-use Prim.Native.Nat.{_+_}
+use Prim.Native.Nat.{_+_, _%_}
+use lib.Dec.{eqb}
 use denote.Ref.{now}
 use Rattle.fill.proofs.Buffers.Sizes.{work-size}
-use Rattle.network.specs.inner.Levels.{made, entryMade}
+use Rattle.network.specs.Levels.{made, entryMade}
 use Rattle.network.proofs.Entries.{entry-next, entry-alike, entry-unlike}
+use Rattle.network.proofs.LinkRefs.{opposite-small}
 use Rattle.network.proofs.levels.read_entry.Statement.{statement}
 use Rattle.network.proofs.levels.read_entry.Tie as tie
 use Rattle.network.proofs.levels.read_entry.Reads as reads
@@ -67,7 +69,19 @@ turned-requires-2 : tie.Need-turned-requires-2
 turned-requires-2 c κs = search needs
 
 put-node-requires : tie.Need-put-node-requires
-put-node-requires c κs = omega (arith, one-more (c .before .before .before .before .before))
+put-node-requires c κs =
+    let d = c .before .before .before .before .before in
+    let r = d .before .link-ref in
+    let q = c .before .before .before .link-ref2 in
+    let odd = eqb (r .result % 2) 1 in
+    omega (
+      arith,
+      one-more d,
+      c .before .before .turned .ensures,
+      c .before .turned2 .ensures,
+      opposite-small odd (r .result) (r .ensures .1),
+      opposite-small odd (q .result) (q .ensures .1),
+    )
 
 add-put-stored : tie.Need-add-put-stored
 add-put-stored c = omega (arith, one-more (c .before .before .before .before .before .before .before .before .before))
@@ -101,7 +115,7 @@ returns-2 c =
     (d .before .link-ref .result) (n .before .before .before .before .link-ref2 .result) (n .before .before .before .turned .result)
     (n .before .before .turned2 .result) (c .before .before .put-stored2 .last .0) (n .put-node .last .0) (d .if1 .left)
     (d .before .link-ref .ensures .0) (n .before .before .before .before .link-ref2 .ensures .0)
-    (n .before .before .before .turned .ensures .0) (n .before .before .turned2 .ensures .0)
+    (n .before .before .before .turned .ensures) (n .before .before .turned2 .ensures)
     (n .put-node .ensures) (c .before .before .put-stored2 .ensures)
 
 pub read-entry-spec : {M : Type 1} → statement M

@@ -4,7 +4,7 @@ use mathlib.Core.Path.{_≡_, refl, ap, _∙_}
 use Prim.Native.Nat.{_≤_, _-_}
 use native.Mathlib.Omega.{arith}
 use denote.Ref.{now}
-use Rattle.network.specs.inner.Levels.{made, levelMade}
+use Rattle.network.specs.Levels.{made, levelMade}
 use Rattle.network.proofs.Entries.{turn-work, turn-cells, turn-next, turn-made}
 use Rattle.network.proofs.levels.read_level.Statement.{statement}
 use Rattle.network.proofs.levels.read_level.Tie as tie

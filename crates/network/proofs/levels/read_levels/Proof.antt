@@ -6,7 +6,7 @@ use native.Mathlib.Omega.{arith}
 use denote.Ref.{now}
 use lib.ListN.{length, getD}
 use Rattle.block.specs.Bits.{sumBelow}
-use Rattle.network.specs.inner.Levels.{made, Made, levelAt, levelsMade}
+use Rattle.network.specs.Levels.{made, Made, levelAt, levelsMade}
 use Rattle.network.proofs.Offsets.{sum-above, at-above, at-rises}
 use Rattle.network.proofs.LevelTurns.{no-levels, turn-level, levels-work, levels-cells}
 use Rattle.network.proofs.levels.read_levels.Statement.{statement}

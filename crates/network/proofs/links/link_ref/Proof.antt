@@ -8,7 +8,7 @@ use Rattle.diagram.specs.inner.Trace.{opposite}
 use Rattle.diagram.specs.Diagram.{inverts}
 use mathlib.Core.Bool.{true}
 use Rattle.fill.proofs.Buffers.Sizes.{work-size}
-use Rattle.network.proofs.LinkRefs.{ref-constant, ref-entry}
+use Rattle.network.proofs.LinkRefs.{opposite-small, ref-constant, ref-entry}
 use Rattle.network.proofs.links.link_ref.Statement.{statement}
 use Rattle.network.proofs.links.link_ref.Tie as tie
 use Rattle.network.proofs.links.link_ref.Reads as reads
@@ -38,10 +38,11 @@ turned-requires c κs = search needs
 
 returns-2 : tie.Need-returns-2
 returns-2 c =
-    let a = c .before .before .before .before .args in (
-      c .turned .ensures .0 ∙ ap (opposite (inverts true (a .k))) (c .before .stored-at .ensures .0)
+    let a = c .before .before .before .before .args in
+    let r = c .before .stored-at in (
+      c .turned .ensures ∙ ap (opposite (inverts true (a .k))) (r .ensures .0)
           ∙ sym (ref-entry (now (a .work)) (a .below) (a .k) (search needs)),
-      c .turned .ensures .1,
+      omega (arith, c .turned .ensures, opposite-small (inverts true (a .k)) (r .result) (r .ensures .1)),
     )
 
 pub link-ref-spec : {M : Type 1} → statement M

@@ -4,7 +4,7 @@ use borrow.Author.Needs.{needs}
 use mathlib.Core.Path.{sym, ap, _∙_}
 use Prim.Native.Nat.{_+_, _*_}
 use denote.Ref.{now}
-use Rattle.network.specs.inner.Levels.{storedAt, refAt}
+use Rattle.network.specs.Levels.{storedAt, refAt}
 use Rattle.network.proofs.Offsets.{links-at}
 use Rattle.network.proofs.RootTurns.{root-past, root-link}
 use Rattle.network.proofs.roots.root_of.Statement.{statement}

@@ -9,7 +9,7 @@ use Rattle.diagram.specs.Bound.{mostOutputs}
 use Rattle.table.specs.Calls.{over}
 use Rattle.table.proofs.Over.{over-next, length-over}
 use Rattle.lent.proofs.Sizes.{roots-size}
-use Rattle.network.specs.inner.Levels.{rootAt}
+use Rattle.network.specs.Levels.{rootAt}
 use Rattle.network.proofs.roots.write_roots.Statement.{statement}
 use Rattle.network.proofs.roots.write_roots.Tie as tie
 use Rattle.network.proofs.roots.write_roots.Reads as reads

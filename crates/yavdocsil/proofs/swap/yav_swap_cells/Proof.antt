@@ -8,7 +8,7 @@ use Rattle.diagram.specs.Demands.{NoneFits}
 use Rattle.table.specs.declared.Outcome.{Outcome}
 use Rattle.lent.specs.Lent.{lentDiagram}
 use Rattle.network.specs.Build.{capacity}
-use Rattle.network.specs.Swap.{cellTable, exchangedOrder, reachesSwap, Swapped}
+use Rattle.swapping.specs.Swap.{cellTable, exchangedOrder, reachesSwap, Swapped}
 use Rattle.yavdocsil.specs.Words.{stateFrom}
 use Rattle.yavdocsil.specs.Called.{settled, success}
 use Rattle.yavdocsil.proofs.SmallValues.{Small, swap-cells-small}

@@ -1,0 +1,3 @@
+pub mod AsBuilt
+pub mod inner
+pub mod Swap
