@@ -6,8 +6,7 @@ use Prim.Native.Nat.{ℕ, zero, suc, _+_, _-_, _<_}
 use native.Mathlib.Omega.{arith}
 use lib.Dec.{T, eqb, ltb, leb, eqb→eq}
 use Rattle.diagram.specs.Tree.{Tree, leaf, node, half, inverted}
-use Rattle.diagram.specs.Diagram.{Node, Diagram, edge, inverts, nodeAt}
-use Rattle.diagram.specs.inner.Trace.{opposite}
+use Rattle.diagram.specs.Diagram.{Node, Diagram, edge, inverts, nodeAt, opposite}
 use Rattle.diagram.specs.inner.Exchange.{cofactor}
 use Rattle.diagram.proofs.Bools.{split, to-T, absurd-T}
 use Rattle.diagram.proofs.Tree.{inverted-false, inverted-inverted, node-halves}

@@ -7,8 +7,7 @@ use Prim.Native.Nat.{ℕ, zero, suc, _≤_}
 use lib.Dec.{T, eqb, ltb, nltb→le}
 use lib.ListN.{length}
 use Rattle.diagram.specs.Fill.{Link}
-use Rattle.diagram.specs.Diagram.{Node, Diagram, edge, inverts, largest, nodeAt, wellFormed}
-use Rattle.diagram.specs.inner.Trace.{opposite}
+use Rattle.diagram.specs.Diagram.{Node, Diagram, edge, inverts, largest, nodeAt, wellFormed, opposite}
 use Rattle.diagram.specs.inner.Exchange.{Pair, pair, both, entriesFrom, linksFrom, cofactor, halfPair, halfPairs}
 use Rattle.diagram.specs.inner.Exchange.{levelPairs, levelLinks, exchangedTrace}
 use Rattle.diagram.proofs.Bools.{split, to-not}

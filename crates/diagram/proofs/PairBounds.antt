@@ -10,8 +10,7 @@ use native.Mathlib.Omega.{arith}
 use lib.Dec.{T, eqb, ltb, leb→le, le→leb, ltb→lt}
 use lib.ListN.{length, getD}
 use Rattle.diagram.specs.Lists.{all}
-use Rattle.diagram.specs.Diagram.{Node, Diagram, edge, inverts, largest, nodeAt, refers, wellFormed}
-use Rattle.diagram.specs.inner.Trace.{opposite}
+use Rattle.diagram.specs.Diagram.{Node, Diagram, edge, inverts, largest, nodeAt, refers, wellFormed, opposite}
 use Rattle.diagram.specs.inner.Exchange.{Pair, both, entriesAfter, linksFrom, cofactor, halfPair, halfPairs}
 use Rattle.diagram.specs.inner.Exchange.{levelPairs, levelLinks}
 use Rattle.diagram.proofs.Bools.{split, to-T, and-l, and-r}

@@ -7,8 +7,7 @@ use Prim.Native.Nat.{ℕ, zero, suc}
 use native.Mathlib.Omega.{arith}
 use lib.Dec.{T, eqb, ltb}
 use Rattle.diagram.specs.Tree.{Tree, leaf, node, half, full}
-use Rattle.diagram.specs.Diagram.{Node, Diagram, nodeAt}
-use Rattle.diagram.specs.inner.Trace.{opposite}
+use Rattle.diagram.specs.Diagram.{Node, Diagram, nodeAt, opposite}
 use Rattle.diagram.specs.inner.Exchange.{Pair, pair, both, oppositePair, cofactor, halfPair}
 use Rattle.diagram.proofs.Bools.{split}
 use Rattle.diagram.proofs.Tree.{cond-same}

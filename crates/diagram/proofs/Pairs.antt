@@ -8,8 +8,7 @@ use native.Mathlib.Omega.{arith}
 use lib.Dec.{T, eqb, ltb, leb, eqb→eq, eqb-refl, leb→le, le→leb}
 use lib.ListN.{length, getD}
 use Rattle.diagram.specs.Lists.{flip}
-use Rattle.diagram.specs.Diagram.{Diagram, inverts, nodeAt, refers}
-use Rattle.diagram.specs.inner.Trace.{opposite}
+use Rattle.diagram.specs.Diagram.{Diagram, inverts, nodeAt, refers, opposite}
 use Rattle.diagram.specs.inner.Exchange.{Pair, samePair, oppositePair, normalPair, sameClass}
 use Rattle.diagram.proofs.Bools.{split, to-T, and-T, and-l, and-r, or-l, or-r, or-cases, flip-self, both-ways}
 use Rattle.diagram.proofs.Lists.{Equality}

@@ -11,7 +11,8 @@ use Rattle.diagram.specs.Lists.{digit, index}
 use Rattle.diagram.specs.Tree.{Tree, leaf, half, halves, full, first, same, inverted}
 use Rattle.diagram.specs.Fill.{Link, const, entry, follow}
 use Rattle.diagram.specs.Network.{depends, normal, classes, reference, refer}
-use Rattle.diagram.specs.inner.Trace.{opposite, linkRef}
+use Rattle.diagram.specs.Diagram.{opposite}
+use Rattle.diagram.specs.inner.Trace.{linkRef}
 use Rattle.diagram.proofs.Bools.{split}
 use Rattle.diagram.proofs.Tree.{same-self, inverted-false, half-inverted, first-inverted, depends-inverted, normal-inverted}
 use Rattle.diagram.proofs.Lists.{getD-map}

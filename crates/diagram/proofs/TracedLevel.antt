@@ -13,9 +13,9 @@ use lib.Seq.{getD-append-seam}
 use Rattle.diagram.specs.Lists.{all, index, distinct}
 use Rattle.diagram.specs.Tree.{Tree, node, half, halves, pairs, first, same}
 use Rattle.diagram.specs.Fill.{Link, follow}
-use Rattle.diagram.specs.Diagram.{Node, inverts}
+use Rattle.diagram.specs.Diagram.{Node, inverts, opposite}
 use Rattle.diagram.specs.Network.{depends, normal, classes, reference, refer, nodeOf}
-use Rattle.diagram.specs.inner.Trace.{sameLink, differing, opposite, linkRef, entryRefs, entryNodes}
+use Rattle.diagram.specs.inner.Trace.{sameLink, differing, linkRef, entryRefs, entryNodes}
 use Rattle.diagram.proofs.Bools.{split}
 use Rattle.diagram.proofs.Lists.{Equality, index-getD}
 use Rattle.diagram.proofs.Tree.{same-equality, half-inverted, varies}

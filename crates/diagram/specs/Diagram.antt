@@ -39,6 +39,11 @@ abbrev pub inverts : Bool → ℕ → Bool
 inverts true r = eqb (r % 2) 1
 inverts false r = false
 
+-- the reference to the inverse, where `odd` is true
+abbrev pub opposite : Bool → ℕ → ℕ
+opposite false r = r
+opposite true r = cond (inverts true r) (r - 1) (suc r)
+
 -- the largest reference where there are k nodes
 abbrev pub largest : Bool → ℕ → ℕ
 largest true k = 2 * k + 1

@@ -11,9 +11,8 @@ use borrow.Author.Tests.{eq-eqb, ne-eqb}
 use lib.Dec.{eqb}
 use lib.ListN.{length, length-set}
 use lib.Seq.{sets}
-use Rattle.diagram.specs.Diagram.{inverts}
+use Rattle.diagram.specs.Diagram.{inverts, opposite}
 use Rattle.diagram.specs.Network.{reference}
-use Rattle.diagram.specs.inner.Trace.{opposite}
 use Rattle.diagram.proofs.Bools.{split}
 use Rattle.diagram.proofs.Bits.{digit-eqb}
 use Rattle.network.specs.Levels.{storedAt, putStored, refAt, Made, made, noded, entryMade, levelMade}

@@ -12,8 +12,8 @@ use lib.Dec.{eqb, lit<}
 use lib.ListN.{length, getD}
 use Rattle.diagram.specs.Lists.{digit}
 use Rattle.diagram.specs.Fill.{Link, const, entry}
-use Rattle.diagram.specs.Diagram.{inverts}
-use Rattle.diagram.specs.inner.Trace.{opposite, linkRef}
+use Rattle.diagram.specs.Diagram.{inverts, opposite}
+use Rattle.diagram.specs.inner.Trace.{linkRef}
 use Rattle.diagram.proofs.Bools.{split}
 use Rattle.diagram.proofs.Rising.{Valid, AllValid}
 use Rattle.diagram.proofs.Bits.{digit-le, eqb-digit}

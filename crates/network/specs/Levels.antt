@@ -7,9 +7,8 @@ use Prim.Native.Nat.{ℕ, zero, suc, _+_, _*_, _-_, _/_, _%_}
 use lib.Dec.{eqb, ltb}
 use lib.ListN.{getD, set}
 use lib.Seq.{sets}
-use Rattle.diagram.specs.Diagram.{inverts}
+use Rattle.diagram.specs.Diagram.{inverts, opposite}
 use Rattle.diagram.specs.Network.{reference}
-use Rattle.diagram.specs.inner.Trace.{opposite}
 use Rattle.block.specs.Bits.{sumBelow}
 use Rattle.fill.specs.Work.{linksAt}
 use Rattle.fill.specs.Counts.{linkAt}

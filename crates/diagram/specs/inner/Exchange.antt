@@ -11,9 +11,8 @@ use lib.Dec.{T, eqb, ltb}
 use lib.ListN.{getD}
 use Rattle.diagram.specs.Lists.{flip, has, index, upTo}
 use Rattle.diagram.specs.Fill.{Link, const, entry}
-use Rattle.diagram.specs.Diagram.{Node, edge, inverts}
+use Rattle.diagram.specs.Diagram.{Node, edge, inverts, opposite}
 use Rattle.diagram.specs.Order.{isOrder}
-use Rattle.diagram.specs.inner.Trace.{opposite}
 
 -- an order in which levels p and p + 1 of another are exchanged
 pub record Exchanged (n p : ℕ) (order other : List ℕ) : Type 0 where

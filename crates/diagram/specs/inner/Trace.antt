@@ -3,12 +3,12 @@
 -- Assumes nothing.
 use mathlib.Core.Bool.{Bool, true, false, cond, Bool·beq, _&&_}
 use mathlib.Core.List.{List, [], _∷_, _++_, map}
-use Prim.Native.Nat.{ℕ, suc, _+_, _-_}
+use Prim.Native.Nat.{ℕ, suc, _+_}
 use lib.Dec.{eqb}
 use lib.ListN.{getD}
 use Rattle.diagram.specs.Lists.{digit}
 use Rattle.diagram.specs.Fill.{Link, const, entry}
-use Rattle.diagram.specs.Diagram.{Node, Diagram, inverts}
+use Rattle.diagram.specs.Diagram.{Node, Diagram, inverts, opposite}
 use Rattle.diagram.specs.Network.{reference}
 
 abbrev pub sameLink : Link → Link → Bool
@@ -22,11 +22,6 @@ abbrev pub differing : List Link → ℕ
 differing [] = 0
 differing (k ∷ []) = 0
 differing (k ∷ l ∷ ls) = cond (sameLink k l) (differing ls) (suc (differing ls))
-
--- a reference to the inverse
-abbrev pub opposite : Bool → ℕ → ℕ
-opposite false r = r
-opposite true r = cond (inverts true r) (r - 1) (suc r)
 
 -- the reference that a link stands for, where `refs` are the entries'
 abbrev pub linkRef : List ℕ → Link → ℕ

@@ -4,8 +4,7 @@ use borrow.Author.Needs.{needs}
 use mathlib.Core.Path.{sym, ap, _∙_}
 use native.Mathlib.Omega.{arith}
 use denote.Ref.{now}
-use Rattle.diagram.specs.inner.Trace.{opposite}
-use Rattle.diagram.specs.Diagram.{inverts}
+use Rattle.diagram.specs.Diagram.{inverts, opposite}
 use mathlib.Core.Bool.{true}
 use Rattle.fill.proofs.Buffers.Sizes.{work-size}
 use Rattle.network.proofs.LinkRefs.{opposite-small, ref-constant, ref-entry}
