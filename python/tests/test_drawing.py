@@ -13,7 +13,9 @@ EXAMPLES = PYTHON.parent / "examples"
 sys.path.insert(0, str(PYTHON))
 
 from yavdocsil import Malformed, Table
-from yavdocsil.content import MARKS
+from yavdocsil.display import columns
+from yavdocsil.errors import Faults
+from yavdocsil.reading import MARKS, drawing
 
 WORDS = ["a", "B2", "left", "held_long", "00", "1-", "-1", "places", ".i", "~", "é", "x[3]", "01", "a,b", "--", "y'"]
 
@@ -87,6 +89,16 @@ class Reading(unittest.TestCase):
     def test_input_0_is_the_most_significant(self) -> None:
         self.check("a b c | y\n1 0 0 | 1\n", *"----1---")
 
+    def test_either_value_of_an_input(self) -> None:
+        self.check("a b | y\n0 - | 1\n1 1 | 0\n", "1", "1", "-", "0")
+        self.check("a b | y z\n- 0 | 1 -\n- 1 | 0 1\n", "1-", "01", "1-", "01")
+        self.check("a b c | y\n- 1 - | 1\n", *"--11--11")
+        self.check("a b | y\n- - | 0\n", *"0000")
+
+    def test_a_byte_order_mark(self) -> None:
+        for text in ("a | y\n0 | 1\n", "# a | y\na | y\n0 | 1\n"):
+            self.assertEqual(drawing.read(f"\ufeff{text}"), drawing.read(text))
+
     def test_no_inputs(self) -> None:
         for text, row in (("| y\n| 1\n", "1"), ("|y\n|0", "0"), ("| y\n", "-"), ("| y\n| -\n", "-"), ("places\n| y z\n| 1 0\n", "10")):
             with self.subTest(text):
@@ -150,6 +162,10 @@ class Errors(unittest.TestCase):
         self.check("a b | 1\n", 1, 7, "a mark and no name")
         self.check("  a | y\n  0 ! 1\n  1 | 1\n", 2, 3, "among the rows")
 
+    def test_a_byte_order_mark_before_a_name(self) -> None:
+        reason = "a byte order mark stands before the name of an input; it may stand at the text's start alone"
+        self.check("# so\n\ufeffa | y", 2, 1, reason)
+
     def test_names_twice(self) -> None:
         self.check("a b a | y", 1, 5, "the input a is named twice")
         self.check("\n a b | y z  y", 2, 13, "the output y is named twice")
@@ -171,21 +187,27 @@ class Errors(unittest.TestCase):
         self.check("| y\n0 | 1", 2, 1, "the number of input marks is 1, not 0")
 
     def test_wrong_marks(self) -> None:
-        self.check("a b | y\n0 x | 1", 2, 3, "x is not an input's mark")
+        self.check("a b | y\n0 x | 1", 2, 3, "x is not an input's mark, which is 0, 1 or -")
         self.check("a b | y\n00 | 1", 2, 1, "00 is not an input's mark")
         self.check("a b | y\n0 0 | 1\n0 2 | 1", 3, 3, "2 is not an input's mark")
         self.check("a b | y z\n0 0 | 1 x", 2, 9, "x is not an output's mark")
         self.check("a b | y z\n0 0 | 10", 2, 7, "10 is not an output's mark")
-        self.check("a b | y z\n0 0 |0 ~", 2, 8, "~ is not an output's mark")
-
-    def test_a_free_input(self) -> None:
-        self.check("a b | y\n- 0 | 1", 2, 1, "a PLA takes cubes")
+        self.check("a b | y z\n0 0 |0 ~", 2, 8, "~ is not an output's mark, which is 0, 1 or -")
+        self.check(f"a | y\n{'0' * 40} | 1", 2, 1, f"{'0' * 40} is not an input's mark")
+        self.check(f"a | y\n{'0' * 41} | 1", 2, 1, f"{'0' * 40}.. is not an input's mark")
+        self.check("a | y\n\x1b[m | 1", 2, 1, "\\x1b[m is not an input's mark")
 
     def test_a_row_twice(self) -> None:
-        self.check("a b | y\n0 1 | 1\n0 0 | 1\n  0 1 | 0", 4, 3, "row 01 stands twice", "lines 2 and 4")
-        self.check("a b | y\n0 1 | 1\n\n0 1 | 1", 4, 1, "row 01 stands twice", "lines 2 and 4")
-        self.check("a b | y\n0 1 | -\n0 1 | -", 3, 1, "lines 2 and 3")
-        self.check("| y\n| 1\n | 1", 3, 2, "the only row stands twice", "lines 2 and 3")
+        self.check("a b | y\n0 1 | 1\n0 0 | 1\n  0 1 | 0", 4, 3, "row 01 is drawn twice, in lines 2 and 4")
+        self.check("a b | y\n0 1 | 1\n\n0 1 | 1", 4, 1, "row 01 is drawn twice, in lines 2 and 4")
+        self.check("a b | y\n0 1 | -\n0 1 | -", 3, 1, "row 01 is drawn twice, in lines 2 and 3")
+        self.check("| y\n| 1\n | 1", 3, 2, "the only row is drawn twice, in lines 2 and 3")
+
+    def test_a_row_twice_by_lines_of_more(self) -> None:
+        self.check("a b | y\n0 1 | 1\n- 1 | 1", 3, 1, "row 01 is drawn twice, in lines 2 and 3")
+        self.check("a b | y\n1 - | 1\n0 0 | 1\n- 1 | 1", 4, 1, "row 11 is drawn twice, in lines 2 and 4")
+        self.check("a b | y\n0 1 | 1\n1 0 | 0\n- - | -", 4, 1, "row 01 is drawn twice, in lines 2 and 4")
+        self.check("a b | y\n- - | -\n1 1 | -", 3, 1, "row 11 is drawn twice, in lines 2 and 3")
 
     def test_two_bars(self) -> None:
         self.check("a | b | y\n", 1, 7, "second bar")
@@ -194,7 +216,7 @@ class Errors(unittest.TestCase):
 
     def test_places(self) -> None:
         rows = "a b c | y\n"
-        self.check(rows + "places a c d", 2, 12, "there is no input d")
+        self.check(rows + "places a c d\n2", 2, 12, "there is no input d")
         self.check(rows + "places a y c b", 2, 10, "there is no input y")
         self.check("places a b a\n" + rows, 1, 12, "the input a is named twice")
         self.check(rows + " places a b", 2, 2, "c missing")
@@ -223,21 +245,55 @@ class Errors(unittest.TestCase):
         self.check("Text with a | in it\n\n    a b | y\n", 3, 5, "a is not an input's mark")
         self.check("Text\n  a b | y\nThis | that", 3, 1, "This is not an input's mark")
 
-    def test_any_text_is_read_or_malformed(self) -> None:
-        chance = random.Random(1)
-        pieces = [*"01-|  \n\n#ab\t", "places ", "  ", "0 1 | 1\n", "a b | y\n", "1 1 | -\n", "  a | y\n"]
-        read = 0
-        for _ in range(3000):
-            text = "".join(chance.choice(pieces) for _ in range(chance.randint(0, 12)))
-            try:
-                table = Table.from_drawing(text)
-            except Malformed as error:
-                lines = text.split("\n")
-                self.assertTrue(1 <= error.line <= len(lines) and 0 <= error.column <= len(lines[error.line - 1]), text)
-            else:
-                read += 1
-                self.assertEqual(Table.from_drawing(table.to_drawing()), table)
-        self.assertGreater(read, 50)
+
+class AllErrors(unittest.TestCase):
+    """The errors of a drawing together, a line's first one for each line, and the first of them as the reading alone has it."""
+
+    def check(self, text: str, *wanted: str) -> None:
+        faults = Faults(gathers=True)
+        with self.subTest(text):
+            with self.assertRaises(Malformed) as caught:
+                drawing.read(text, faults)
+            self.assertEqual([str(error) for error in faults.found], list(wanted))
+            self.assertIs(caught.exception, faults.found[0])
+            with self.assertRaises(Malformed) as alone:
+                drawing.read(text)
+            self.assertEqual(str(alone.exception), wanted[0])
+
+    def test_each_line_of_its_own(self) -> None:
+        self.check(
+            "0 0 1\na b | y\n0 2 | x\n0 0 | 1\n- 0 | 1\nplaces a\n1 0 | 1\nplaces b a\n\n1 0 | 0\n1 1 | 1 |\n",
+            "line 1, column 1: a row without a bar",
+            "line 3, column 3: 2 is not an input's mark, which is 0, 1 or -",
+            "line 5, column 1: row 00 is drawn twice, in lines 4 and 5",
+            "line 6, column 1: not every input has a place: b missing",
+            "line 8, column 1: the places are named twice, in lines 6 and 8",
+            "line 10, column 1: row 10 is drawn twice, in lines 7 and 10",
+            "line 11, column 9: a second bar: a line has one, between the inputs and the outputs",
+        )
+
+    def test_a_heading_ends_it(self) -> None:
+        self.check("0 0 1\na a | 0 |\n2 | 3\n", "line 2, column 9: a second bar: a line has one, between the inputs and the outputs")
+        self.check("0 0 1\na a | 0\n2 | 3\n", "line 2, column 3: the input a is named twice")
+        self.check("0 0 1\n", "line 1: there is no heading: no line has a bar")
+
+    def test_no_error(self) -> None:
+        faults = Faults(gathers=True)
+        self.assertEqual(drawing.read("a | y\n0 | 1\n", faults), drawing.read("a | y\n0 | 1\n"))
+        self.assertEqual(faults.found, [])
+
+    def test_text_among_the_rows_is_told_when_a_row_follows(self) -> None:
+        page = "Page\n  a b | y\n  0 0 | 1\n"
+        among = "column 3: this is no row, and stands among the rows"
+        bar = "column 1: a row without a bar"
+        places = "column 10: there is no input q"
+        mark = "column 9: 2 is not an output's mark, which is 0, 1 or -"
+        self.check(page + "  one\ntwo\n  three\n  0 1 | 2\n  four\n", f"line 4, {among}", f"line 6, {among}", f"line 7, {mark}")
+        # What is wrong between waits until it is known whether a row follows.
+        text = page + "  one\n0 1\n  places q\n  two\n"
+        self.check(text + "  0 1 | 1\n", f"line 4, {among}", f"line 5, {bar}", f"line 6, {places}", f"line 7, {among}")
+        self.check(text, f"line 5, {bar}", f"line 6, {places}")
+        self.check(page + "0 1\n  one\n  places q\n  0 1 | 1\n  two\n", f"line 4, {bar}", f"line 5, {among}", f"line 6, {places}")
 
 
 class Writing(unittest.TestCase):
@@ -271,6 +327,13 @@ class Writing(unittest.TestCase):
             at += len(word)
         return found
 
+    def test_marks_stand_under_wide_names(self) -> None:
+        table = Table.from_rows(["0-", "10"], ["\u958b\u304f"], ["\u706f", "e\u0301"])
+        self.assertEqual(table.to_drawing(), "\u958b\u304f | \u706f e\u0301\n 0   | 0  -\n 1   | 1  0\n")
+        for line in table.to_drawing().splitlines():
+            self.assertEqual(columns(line[: line.index("|")]), 5)
+        self.assertEqual(Table.from_drawing(table.to_drawing()), table)
+
     def test_round_trips(self) -> None:
         chance = random.Random(3)
         for n in [*range(7)] * 20 + [7, 8, 9, 10]:
@@ -289,7 +352,7 @@ class Writing(unittest.TestCase):
                 self.assertEqual(Table.from_drawing(table.to_drawing()), table)
 
     def test_names_that_are_not_words(self) -> None:
-        for name in ("", "a b", "a|b", "#", "a#", "|", "\t", "a\n", "a\u2028b"):
+        for name in ("", "a b", "a|b", "#", "a#", "|", "\t", "a\n", "a\u2028b", "0", "1", "-", "\ufeffa"):
             for names in ({"inputs": [name]}, {"outputs": [name]}):
                 with self.subTest(name), self.assertRaises(ValueError):
                     Table.from_rows(["0", "1"], **names).to_drawing()

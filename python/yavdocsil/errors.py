@@ -2,7 +2,10 @@
 
 from __future__ import annotations
 
-from typing import Optional
+import sys
+import warnings
+from types import TracebackType
+from typing import Any, Optional
 
 # The refusals of the calls, by the papers' numbers.
 REFUSALS = {
@@ -26,6 +29,8 @@ REFUSALS = {
     34: "the report needs more entries",
 }
 TOO_SMALL = 23
+# A reading that gathers its errors ends at so many.
+MOST_GATHERED = 100
 
 
 class Error(Exception):
@@ -41,6 +46,10 @@ class Refused(Error):
         has = f", it has {board}" if wanted and board is not None else ""
         super().__init__(f"refused {number}: {REFUSALS.get(number, 'for a reason unknown here')}{wanted}{has}")
 
+    def __reduce__(self) -> tuple[Any, ...]:
+        # Else a pickle would be made anew from the text alone.
+        return type(self), (self.number, self.value, self.board)
+
 
 class Malformed(Error):
     """A text can't be read. Lines and columns count from 1; column 0 stands for the whole line."""
@@ -50,6 +59,47 @@ class Malformed(Error):
         place = f"line {line}, column {column}" if column else f"line {line}"
         super().__init__(f"{place}: {reason}")
 
+    def __reduce__(self) -> tuple[Any, ...]:
+        return type(self), (self.reason, self.line, self.column)
+
+
+class Faults:
+    """Where a reader tells what is wrong with a text.
+
+    A reader treats each line `with faults:`. The first error ends the reading, unless all are wanted: then those of one line are kept in
+    `found`, and the reading goes on with the next, up to MOST_GATHERED. `notes` has what is taken though it isn't as it should be.
+    """
+
+    def __init__(self, gathers: bool = False) -> None:
+        self.gathers = gathers
+        self.found: list[Malformed] = []
+        self.notes: list[Malformed] = []
+
+    def __enter__(self) -> Faults:
+        return self
+
+    def __exit__(self, kind: Optional[type[BaseException]], error: Optional[BaseException], trace: Optional[TracebackType]) -> bool:
+        if not self.gathers or not isinstance(error, Malformed):
+            return False
+        self.found.append(error)
+        return len(self.found) < MOST_GATHERED
+
+    def note(self, what: Malformed) -> None:
+        self.notes.append(what)
+
+    def warn(self) -> None:
+        """Gives each note as a Python warning, of the line outside this package that asked for the reading."""
+        frame, level = sys._getframe(1), 2
+        while frame.f_back is not None and frame.f_globals.get("__name__", "").partition(".")[0] == __package__:
+            frame, level = frame.f_back, level + 1
+        for note in self.notes:
+            warnings.warn(str(note), stacklevel=level)
+
+    def end(self) -> None:
+        """The end of a reading: what was found is raised, the first of it, since there is no table then."""
+        if self.found:
+            raise self.found[0]
+
 
 class NotBuilt(Error):
-    """The shared library isn't where it should be."""
+    """The shared library isn't where it should be, or what is there isn't it."""

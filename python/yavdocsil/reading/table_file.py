@@ -5,12 +5,12 @@ from __future__ import annotations
 from collections.abc import Sequence
 from typing import TYPE_CHECKING
 
-from . import bits
-from .content import Content, names_from
-from .library import BLOCK_BYTES, INPUTS, ORDER, OUTPUTS, Buffers, octets
+from .. import bits
+from ..library import BLOCK_BYTES, INPUTS, ORDER, OUTPUTS, Buffers, buffer
+from . import Content, names_from
 
 if TYPE_CHECKING:
-    from .table import Table
+    from ..table import Table
 
 HEADING, VALUES, CARE = 1, 2, 3
 CONTENT_AT, CONTENT_BYTES, CHECK_AT = 4, 506, 510
@@ -41,6 +41,6 @@ def write(table: Table) -> bytes:
 def read(data: bytes) -> Content:
     """The content of a table file; its inputs are named x0, x1 and so on, and its outputs y0, y1."""
     lent = Buffers(board=0)
-    lent.call("load", file=octets(data))
+    lent.call("load", file=buffer("file", data))
     n, m = lent.state[INPUTS], lent.state[OUTPUTS]
     return Content(lent.columns, names_from("x", n), names_from("y", m), tuple(lent.state[ORDER : ORDER + n]))

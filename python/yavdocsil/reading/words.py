@@ -1,37 +1,47 @@
-"""Words of a text with their places, for the formats that are text: names, the order of the places, rows and numbers as a person speaks of them."""
+"""Words of a text with their places, for the formats that are text: names, the order, rows and numbers as a person speaks of them."""
 
 from __future__ import annotations
 
 import re
-from collections.abc import Sequence
+from collections.abc import Iterator, Sequence
 from typing import TYPE_CHECKING, NamedTuple, Optional
 
-from .errors import Malformed
+from ..display import harmless
+from ..errors import Malformed
 
 if TYPE_CHECKING:
-    from .table import Table
+    from ..table import Table
 
 BAR, COMMENT, PLACES = "|", "#", "places"
+BYTE_ORDER_MARK = "\ufeff"
+LINE_END = re.compile(r"\r\n|\r|\n")
 BLANKED = re.compile(r"\S+")
 # A bar is a word of its own, with or without blanks around it.
 BARRED = re.compile(r"\||[^\s|]+")
+# What an error quotes of a word, at most.
+MOST_QUOTED = 40
 
 
 class Word(NamedTuple):
-    """A word and where it begins; line and column count from 1."""
+    """A word and where it begins; line and column count from 1. `cell` is its name in a spreadsheet, if it stands in one."""
 
     text: str
     line: int
     column: int
+    cell: str = ""
 
     def wrong(self, reason: str) -> Malformed:
-        """The error that names this word's place."""
-        return Malformed(reason, self.line, self.column)
+        """The error that names this word's place, on one line whatever the word has in it."""
+        return Malformed(harmless(f"cell {self.cell}: {reason}" if self.cell else reason), self.line, self.column)
 
 
-def split_lines(text: str) -> list[str]:
-    """The lines of a text, as an editor counts them."""
-    return re.split(r"\r\n|\r|\n", text)
+def split_lines(text: str) -> Iterator[str]:
+    """The lines of a text, as an editor counts them, each cut when it is asked for; a byte order mark at the start is left out."""
+    begin = len(BYTE_ORDER_MARK) if text.startswith(BYTE_ORDER_MARK) else 0
+    for end in LINE_END.finditer(text, begin):
+        yield text[begin : end.start()]
+        begin = end.end()
+    yield text[begin:]
 
 
 def words_of(line: str, number: int, pattern: re.Pattern[str], begin: int = 0) -> list[Word]:
@@ -66,11 +76,16 @@ def second_places(places: Sequence[Word], first: Sequence[Word]) -> Malformed:
     return places[0].wrong(f"the places are named twice, in lines {first[0].line} and {places[0].line}")
 
 
+def places_words(table: Table) -> list[str]:
+    """The word `places` and the names that follow it; no word where the order is that of the inputs."""
+    if list(table.order) == sorted(table.order):
+        return []
+    return [PLACES, *(table.inputs[number] for number in table.order)]
+
+
 def places_line(table: Table) -> Optional[str]:
     """The line that names the places; none where the order is that of the inputs."""
-    if list(table.order) == sorted(table.order):
-        return None
-    return " ".join([PLACES, *(table.inputs[number] for number in table.order)])
+    return " ".join(places_words(table)) or None
 
 
 def check_names(table: Table, pattern: re.Pattern[str], kind: str) -> None:
@@ -90,6 +105,6 @@ def row_named(row: int, n: int) -> str:
     return f"row {row_digits(row, n)}" if n else "the only row"
 
 
-def many(count: int, thing: str) -> str:
-    """So many of a thing."""
-    return f"{count} {thing}" if count == 1 else f"{count} {thing}s"
+def quoted(text: str) -> str:
+    """A word as an error quotes it: its beginning alone, if it is long."""
+    return text if len(text) <= MOST_QUOTED else f"{text[:MOST_QUOTED]}.."

@@ -1,4 +1,5 @@
-"""What a table consists of, for the formats that it is read from and written to, and the limits of it."""
+"""Where tables are read and written: drawings, PLAs, spreadsheets, BLIF and table files. Here is what a table consists of, for all of them,
+and the limits of it."""
 
 from __future__ import annotations
 
