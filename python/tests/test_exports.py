@@ -1,140 +1,15 @@
-"""Tests of the exports to BLIF and Verilog, which small evaluators here read again. Needs no library and no tool."""
+"""Tests of the exports to BLIF and Verilog, which small readers here read again. Needs no library and no tool."""
 
 from __future__ import annotations
 
-import pathlib
 import random
 import re
-import sys
 import unittest
-from collections.abc import Callable, Sequence
-from typing import NamedTuple
+from collections.abc import Sequence
 
-sys.path.insert(0, str(pathlib.Path(__file__).resolve().parent.parent))
-
-from yavdocsil import blif, names, verilog  # noqa: E402
-from yavdocsil.diagram import Cell, Diagram  # noqa: E402
-
-Values = dict[str, int]
-
-
-class Read(NamedTuple):
-    """What an export says: its ports, and each other signal by what it is driven with, in the file's sequence."""
-
-    model: str
-    inputs: list[str]
-    outputs: list[str]
-    drivers: dict[str, Callable[[Values], int]]
-
-    def evaluate(self, row: int) -> tuple[int, ...]:
-        n = len(self.inputs)
-        values = {name: row >> (n - 1 - i) & 1 for i, name in enumerate(self.inputs)}
-        waiting = dict(self.drivers)
-        while waiting:
-            ready = [name for name, driver in waiting.items() if self._settle(name, driver, values)]
-            if not ready:
-                raise ValueError(f"not driven, or in a circle: {sorted(waiting)}")
-            for name in ready:
-                del waiting[name]
-        return tuple(values[name] for name in self.outputs)
-
-    @staticmethod
-    def _settle(name: str, driver: Callable[[Values], int], values: Values) -> bool:
-        try:
-            values[name] = driver(values)
-        except KeyError:
-            return False
-        return True
-
-
-# BLIF.
-
-
-def read_blif(text: str) -> Read:
-    lines = [line.split("#")[0].split() for line in text.splitlines()]
-    lines = [line for line in lines if line]
-    if [line[0] for line in lines[:3]] != [".model", ".inputs", ".outputs"] or lines[-1] != [".end"]:
-        raise ValueError("no model of this kind")
-    if any("\\" in word for line in lines for word in line):
-        raise ValueError("a line that goes on")
-    drivers: dict[str, Callable[[Values], int]] = {}
-    for i, line in enumerate(lines):
-        if line[0] == ".names":
-            rest = lines[i + 1 :]
-            cover = rest[: next(k for k, other in enumerate(rest) if other[0].startswith("."))]
-            if line[-1] in drivers or line[-1] in lines[1]:
-                raise ValueError(f"{line[-1]} is driven twice")
-            drivers[line[-1]] = cover_of(line[1:-1], cover)
-    return Read(lines[0][1], lines[1][1:], lines[2][1:], drivers)
-
-
-def cover_of(columns: Sequence[str], cover: Sequence[Sequence[str]]) -> Callable[[Values], int]:
-    """1 where a cube of the cover has it; with no columns, the cover `1` is the constant 1."""
-    cubes = [line[0] if columns else "" for line in cover]
-    if len(set(columns)) != len(columns) or any(line[-1] != "1" or len(cube) != len(columns) for line, cube in zip(cover, cubes)):
-        raise ValueError(f"no cover of {columns}: {cover}")
-
-    def driver(values: Values) -> int:
-        at = [str(values[name]) for name in columns]
-        return int(any(all(mark in ("-", value) for mark, value in zip(cube, at)) for cube in cubes))
-
-    return driver
-
-
-# Verilog.
-
-TOKEN = re.compile(r"\s+|//[^\n]*|\\(\S+)\s|([A-Za-z_][A-Za-z0-9_$]*)|(1'b[01]|[?:~=;(),])")
-
-
-def tokens_of(text: str) -> list[str]:
-    """Names with `.` before them, so that an escaped one is no keyword; words of the language and signs as they are."""
-    found, at = [], 0
-    while at < len(text):
-        match = TOKEN.match(text, at)
-        if not match:
-            raise ValueError(f"no token: {text[at:at + 20]!r}")
-        escaped, word, sign = match.groups()
-        if escaped or word or sign:
-            found.append(f".{escaped}" if escaped else sign or (word if word in verilog.KEYWORDS else f".{word}"))
-        at = match.end()
-    return found
-
-
-def read_verilog(text: str) -> Read:
-    head, *body = " ".join(tokens_of(text)).split(" ; ")
-    module = re.fullmatch(r"module \.(\S+) \( (.*) \)", head)
-    if not module or body[-1] != "endmodule":
-        raise ValueError("no module of this kind")
-    ports = [port.split(" ") for port in module[2].split(" , ")]
-    inputs, outputs = ([port[2][1:] for port in ports if port[:2] == [way, "wire"]] for way in ("input", "output"))
-    drivers: dict[str, Callable[[Values], int]] = {}
-    for line in body[:-1]:
-        kind, target, sign, *expression = line.split(" ")
-        declared = [*inputs, *(name for name in drivers if name not in outputs)]
-        used = [token[1:] for token in expression if token[0] == "."]
-        if (kind == "assign") != (target[1:] in outputs) or sign != "=" or target[1:] in drivers or not set(used) <= set(declared):
-            raise ValueError(f"no such line, driven twice, or not declared before: {line}")
-        drivers[target[1:]] = expression_of(expression)
-    return Read(module[1], inputs, outputs, drivers)
-
-
-def expression_of(tokens: Sequence[str]) -> Callable[[Values], int]:
-    """A reference, or a choice between two."""
-    if "?" in tokens:
-        ask, colon = tokens.index("?"), tokens.index(":")
-        parts = tokens[:ask], tokens[ask + 1 : colon], tokens[colon + 1 :]
-        select, high, low = (expression_of(part) for part in parts)
-        return lambda values: high(values) if select(values) else low(values)
-    flipped = int(tokens[0] == "~")
-    (token,) = tokens[flipped:]
-    if token in ("1'b0", "1'b1"):
-        return lambda values: int(token[-1]) ^ flipped
-    if not token.startswith("."):
-        raise ValueError(f"no reference: {token}")
-    return lambda values: values[token[1:]] ^ flipped
-
-
-# Diagrams.
+from export_readers import Read, read_blif, read_verilog
+from yavdocsil.diagram import Cell, Diagram
+from yavdocsil.exports import blif, names, verilog
 
 
 def diagram_of(cells: Sequence[tuple[int, int, int]], roots: Sequence[int], inputs: Sequence[str], outputs: Sequence[str] = ()) -> Diagram:
@@ -209,6 +84,10 @@ class Agreement(unittest.TestCase):
         for _ in range(150):
             self.agree(random_diagram(rng))
 
+    def test_a_part_of_a_network(self) -> None:
+        for outputs in (["hold"], ["advance"]):
+            self.agree(BOUNCE_GUARD.only(outputs))
+
     def test_a_wrong_export_is_noticed(self) -> None:
         for kind, (write, read) in FORMATS.items():
             wrong = read(write(diagram_of([(0, 4, 4), (1, 0, 1)], [2], ["a", "b"], ["y"])))
@@ -226,9 +105,17 @@ class Texts(unittest.TestCase):
         self.assertEqual(blif.write(XOR).split("\n"), lines)
 
     def test_verilog(self) -> None:
-        lines = ["module network (", "    input wire a,", "    input wire b,", "    output wire y", ");",
-                 "    wire cell2 = b ? 1'b1 : 1'b0;", "    wire cell1 = a ? ~cell2 : cell2;", "    assign y = cell1;", "endmodule", ""]
+        lines = ["module network (a, b, y);", "    input a, b;", "    output y;", "    wire cell1;", "    wire cell2;",
+                 "    assign cell1 = a ? ~cell2 : cell2;", "    assign cell2 = b ? 1'b1 : 1'b0;", "    assign y = cell1;", "endmodule", ""]
         self.assertEqual(verilog.write(XOR).split("\n"), lines)
+
+    def test_verilog_without_inputs_or_cells(self) -> None:
+        lines = ["module network (y0);", "    output y0;", "    assign y0 = 1'b1;", "endmodule", ""]
+        self.assertEqual(verilog.write(diagram_of([], [1], [])).split("\n"), lines)
+
+    def test_wires_are_declared_place_by_place(self) -> None:
+        lines = [line for line in verilog.write(BOUNCE_GUARD).splitlines() if "wire" in line]
+        self.assertEqual(lines, ["    wire cell1, cell2;", "    wire cell3, cell4;", "    wire cell5, cell6;", "    wire cell7;"])
 
     def test_a_selector_for_each_cell(self) -> None:
         rng = random.Random(2)
@@ -236,10 +123,15 @@ class Texts(unittest.TestCase):
             in_blif, in_verilog = blif.write(diagram), verilog.write(diagram)
             self.assertEqual(len(re.findall(r"^\.names ", in_blif, re.M)), len(diagram.cells) + len(diagram.outputs))
             self.assertEqual(in_verilog.count("?"), len(diagram.cells))
-            self.assertEqual(in_verilog.count("assign"), len(diagram.outputs))
+            self.assertEqual(in_verilog.count("assign"), len(diagram.cells) + len(diagram.outputs))
             for cell in diagram.cells:
                 self.assertEqual(len(re.findall(rf"^\.names .*\bcell{cell.number}$", in_blif, re.M)), 1)
-                self.assertEqual(in_verilog.count(f"wire cell{cell.number} ="), 1)
+                self.assertEqual(in_verilog.count(f"    assign cell{cell.number} = "), 1)
+
+    def test_a_part_has_the_cells_of_the_whole(self) -> None:
+        for write, _ in FORMATS.values():
+            cells = set(re.findall(r"cell\d+", write(BOUNCE_GUARD.only(["advance"]))))
+            self.assertEqual(cells, {"cell2", "cell3", "cell5", "cell7"})
 
     def test_nothing_but_the_columns_that_are_needed(self) -> None:
         text = blif.write(diagram_of([(0, 4, 1), (1, 0, 6), (2, 0, 1)], [2], ["a", "b", "c"]))
@@ -268,10 +160,10 @@ class Naming(unittest.TestCase):
             self.assertEqual((again.inputs, again.outputs), (["a", "b_2", "C"], ["y", "A"]))
 
     def test_keywords(self) -> None:
-        words = ["module", "wire", "logic", "table"]
+        words = ["module", "reg", "logic", "table"]
         for again in self.renamed(words, ["output", "always_comb"]).values():
             self.assertEqual((again.inputs, again.outputs), (words, ["output", "always_comb"]))
-        self.assertIn("input wire \\wire ,", verilog.write(diagram_of([], [0], ["wire"])))
+        self.assertIn("    input \\reg ;\n", verilog.write(diagram_of([], [0], ["reg"])))
 
     def test_signs(self) -> None:
         again = self.renamed(["a-b", "a[0]", "2x", "CS*"], ["y'", "$z"])
@@ -289,7 +181,22 @@ class Naming(unittest.TestCase):
 
     def test_what_verilog_uses(self) -> None:
         again = self.renamed(["`a", "*b", "c//d", "e/*f"], ["#y", '"'])
-        self.assertEqual((again["verilog"].inputs, again["verilog"].outputs), (["_a", "_b", "c//d", "e/*f"], ["_y", '"']))
+        self.assertEqual((again["verilog"].inputs, again["verilog"].outputs), (["_a", "*b", "c//d", "e/*f"], ["#y", '"']))
+
+    def test_what_icarus_mistakes(self) -> None:
+        again = self.renamed(["#", "*", "**"], ["##", "#*"])["verilog"]
+        self.assertEqual((again.inputs, again.outputs), (["_", "__in", "**"], ["##", "#*"]))
+
+    def test_what_abc_mistakes(self) -> None:
+        again = self.renamed(["a(", "b)", "c,", "d;", "1'b0"], ["12'hf", "1'", "a'1", "[0]", "{}"])["verilog"]
+        self.assertEqual(again.inputs, ["a_", "b_", "c_", "d_", "_1_b0"])
+        self.assertEqual(again.outputs, ["_12_hf", "_1_", "a'1", "[0]", "{}"])
+
+    def test_a_word_that_abc_mistakes(self) -> None:
+        again = self.renamed(["wire", "wire_in"], ["wire_out", "wires"])["verilog"]
+        self.assertEqual((again.inputs, again.outputs), (["wire_in2", "wire_in"], ["wire_out", "wires"]))
+        again = self.renamed(["wires"], ["wire"])["verilog"]
+        self.assertEqual((again.inputs, again.outputs), (["wires"], ["wire_out"]))
 
     def test_not_ascii(self) -> None:
         for kind, again in self.renamed(["Tür", "T_r", "β"], ["öffnet", "\ud800"]).items():
@@ -308,6 +215,12 @@ class Naming(unittest.TestCase):
             self.assertEqual((again.inputs, again.outputs), (["cell1", "cell"], ["cell_1", "cell2"]))
             self.assertIn("cell__1", again.drivers)
 
+    def test_cells_of_a_part_give_way(self) -> None:
+        part = diagram_of([(0, 0, 1), (1, 0, 1)], [2, 4], ["cell2", "b"], ["y", "z"]).only(["z"])
+        for kind, (write, read) in FORMATS.items():
+            again = read(write(part))
+            self.assertEqual((again.inputs, sorted(again.drivers)), (["cell2", "b"], ["cell_2", "z"]), kind)
+
     def test_a_comment_tells_the_name(self) -> None:
         diagram = diagram_of([(0, 0, 1)], [2, 3], ["Tür auf", "b"], ["b", "c\\\n"])
         for kind, sign in (("blif", "#"), ("verilog", "//")):
@@ -319,6 +232,7 @@ class Naming(unittest.TestCase):
     def test_the_model(self) -> None:
         for name, in_blif, in_verilog in (
             ("guard", "guard", "guard"), ("a b", "a_b", "a_b"), ("", "_", "_"), ("a-b", "a-b", "a-b"), ("x#\n", "x__", "x__"),
+            ("wire", "wire", "wire"), ("a(b", "a(b", "a_b"),
             ("module", "module", "module"), ("always ff", "always_ff", "always_ff"), ("a", "a", "a"), ("2", "2", "2"), ("é", "_", "_"),
         ):
             self.assertEqual(read_blif(blif.write(XOR, name)).model, in_blif)
@@ -326,7 +240,7 @@ class Naming(unittest.TestCase):
 
     def test_random(self) -> None:
         rng = random.Random(3)
-        parts = ["a", "b", "_", " ", "#", "\\", "`", "\n", "é", "cell", "1", "in", "out", "wire", "", ".", "="]
+        parts = ["a", "b", "_", " ", "#", "\\", "`", "\n", "é", "cell", "1", "in", "out", "wire", "", ".", "=", "(", "'"]
         for _ in range(200):
             pool = list({"".join(rng.choices(parts, k=rng.randrange(4))) for _ in range(8)})
             inputs, outputs = (rng.sample(sorted(pool), min(len(pool), rng.randrange(1, 5))) for _ in range(2))

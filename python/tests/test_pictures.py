@@ -1,12 +1,10 @@
-"""The pictures: everything is drawn, once, where it can be read, and nothing runs through anything else."""
+"""The SVG pictures: everything is drawn, once, where it can be read, and nothing runs through anything else."""
 
 from __future__ import annotations
 
 import functools
 import itertools
 import os
-import pathlib
-import random
 import re
 import subprocess
 import sys
@@ -14,98 +12,12 @@ import unittest
 import xml.etree.ElementTree as ElementTree
 from collections import Counter
 
-PYTHON = pathlib.Path(__file__).resolve().parent.parent
-sys.path.insert(0, str(PYTHON))
-
-from yavdocsil import dot, layout, svg, text  # noqa: E402
-from yavdocsil.layout import graph, order, parts  # noqa: E402
-from yavdocsil.diagram import Cell, Diagram, cell_of, is_constant, is_inverted  # noqa: E402
+from sample_diagrams import BOUNCE_GUARD, DIAGRAMS, LARGE, NASTY, PYTHON, XOR, edges_of, made
+from yavdocsil.diagram import cell_of, is_constant, is_inverted
+from yavdocsil.pictures import layout, svg
+from yavdocsil.pictures.layout import graph, order, parts
 
 SVG = "{http://www.w3.org/2000/svg}"
-NASTY = "a<b>&\"c'\\"
-
-
-def made(inputs, outputs, order, cells, roots):
-    return Diagram(tuple(inputs), tuple(outputs), tuple(order), tuple(Cell(i, *cell) for i, cell in enumerate(cells, 1)), tuple(roots))
-
-
-def network(n, columns):
-    """The reduced network of filled columns under the order 0, 1, ..."""
-    found, cells = {}, []
-
-    def reference(bits):
-        if len(set(bits)) == 1:
-            return bits[0]
-        flipped = bits[0]
-        bits = tuple(bit ^ flipped for bit in bits)
-        half = len(bits) // 2
-        if bits[:half] == bits[half:]:
-            return reference(bits[:half]) ^ flipped
-        if bits not in found:
-            arrows = reference(bits[:half]), reference(bits[half:])
-            cells.append((n + 1 - len(bits).bit_length(), *arrows))
-            found[bits] = 2 * len(cells)
-        return found[bits] ^ flipped
-
-    roots = [reference(tuple(column)) for column in columns]
-    return made([f"x{i}" for i in range(n)], [f"y{j}" for j in range(len(columns))], range(n), cells, roots)
-
-
-def multiplier(width):
-    """Every bit of the product of two numbers."""
-    rows = range(4**width)
-    return network(2 * width, [[(row >> width) * (row % 2**width) >> bit & 1 for row in rows] for bit in range(2 * width)])
-
-
-def wild(seed, n, count, outputs):
-    """Cells as no build leaves them: in any sequence, unreached, 0-edges inverted, both edges alike."""
-    rng = random.Random(seed)
-    places = [rng.randrange(n) for _ in range(count)]
-
-    def arrow(place):
-        later = [i for i, other in enumerate(places, 1) if other > place]
-        return 2 * rng.choice(later) + rng.randrange(2) if later and rng.random() < 0.8 else rng.randrange(2)
-
-    cells = []
-    for place in places:
-        low = arrow(place)
-        cells.append((place, low, low if rng.random() < 0.1 else arrow(place)))
-    roots = [rng.randrange(2 * count + 2) for _ in range(outputs)]
-    return made([f"x{i}" for i in range(n)], [f"y{j}" for j in range(outputs)], range(n), cells, roots)
-
-
-BOUNCE_GUARD = made(
-    ["a", "b", "c", "d", "held"], ["hold", "advance"], (4, 0, 1, 2, 3),
-    [(0, 6, 8), (0, 6, 0), (1, 0, 10), (1, 12, 1), (3, 0, 14), (3, 14, 1), (4, 0, 1)], (2, 4),
-)
-XOR = made(["left", "right"], ["lamp"], (0, 1), [(0, 4, 5), (1, 0, 1)], (2,))
-LARGE = multiplier(4)
-DIAGRAMS = {
-    "no inputs": made([], ["one", "zero"], (), [], (1, 0)),
-    "no cells": made("ab", ["always", "never", "too"], (0, 1), [], (1, 0, 1)),
-    "one cell": made("a", ["inverse"], (0,), [(0, 0, 1)], (3,)),
-    "xor": XOR,
-    "and-or": made("abcd", ["stop"], range(4), [(0, 6, 4), (1, 6, 1), (2, 0, 8), (3, 0, 1)], (2,)),
-    "crossed": made(
-        "abcd", ["stop"], (0, 2, 1, 3), [(0, 4, 6), (1, 0, 12), (1, 8, 10), (2, 0, 1), (2, 12, 1), (3, 0, 1)], (2,),
-    ),
-    "bounce-guard": BOUNCE_GUARD,
-    "multiplier 3": multiplier(3),
-    "multiplier 4": LARGE,
-    "wild, small": wild(1, 4, 9, 3),
-    "wild": wild(2, 8, 100, 5),
-    "long names": made(
-        [f"input_of_some_length{i}" for i in range(3)], [f"output_of_some_len_{j:02}" for j in range(16)], (2, 0, 1),
-        [(0, 4, 5), (1, 6, 1), (2, 0, 1)], [2, 3, 4, 5, 6, 7, 0, 1] * 2,
-    ),
-}
-
-
-def edges_of(diagram):
-    """Every edge as (source, kind, reference)."""
-    roots = [(f"root {output}", "root", root) for output, root in enumerate(diagram.roots)]
-    cells = [(f"cell {cell.number}", kind, arrow) for cell in diagram.cells for kind, arrow in (("low", cell.low), ("high", cell.high))]
-    return roots + cells
 
 
 def by_class(root, name):
@@ -310,37 +222,6 @@ class EveryDiagram(unittest.TestCase):
         right = width - shift(root)
         self.assertTrue(all(0 < x < right and 0 < y < height for x, y in placed))
 
-    @for_each
-    def test_dot_has_every_edge_once(self, diagram, root):
-        lines = dot.write(diagram).splitlines()
-        drawn = Counter()
-        for line in lines:
-            found = re.fullmatch(r"\s*(root|cell)(\d+) -> (constant|cell)(\d+)(?: \[(.*)\])?;", line)
-            if found:
-                kind, number, target, to, look = found.groups()
-                edge = "root" if kind == "root" else "low" if "style=dashed" in look else "high"
-                reference = int(to) if target == "constant" else 2 * int(to) + ("arrowhead=dot" in (look or ""))
-                drawn[f"{kind} {number}", edge, reference] += 1
-        self.assertEqual(drawn, Counter(edges_of(diagram)))
-        self.assertEqual(sum("rank=same" in line for line in lines), len(diagram.inputs))
-
-    @for_each
-    def test_text_has_all_of_the_diagram(self, diagram, root):
-        written = text.write(diagram).split("\n\ni: 0 -> j")[0]
-        found = re.findall(r"(\d+): 0 -> (const [01]|~?\d+), 1 -> (const [01]|~?\d+)", written)
-        cells = {int(number): (read(low), read(high)) for number, low, high in found}
-        self.assertEqual(len(found), len(diagram.cells))
-        self.assertEqual(cells, {cell.number: (cell.low, cell.high) for cell in diagram.cells})
-        roots = re.findall(r"^(\S+) +-> (const [01]|~?\d+)$", written, re.MULTILINE)
-        self.assertEqual([(name, read(root)) for name, root in roots], list(zip(diagram.outputs, diagram.roots)))
-
-
-def read(target):
-    """A reference from how the text writes it."""
-    if target.startswith("const "):
-        return int(target[-1])
-    return 2 * int(target.lstrip("~")) + target.startswith("~")
-
 
 class Svg(unittest.TestCase):
     def test_same_bytes_in_every_run(self):
@@ -360,9 +241,33 @@ class Svg(unittest.TestCase):
         diagram = made([NASTY], [NASTY, "bell\a"], (0,), [(0, 0, 1)], (2, 3))
         root = ElementTree.fromstring(svg.write(diagram, NASTY))
         self.assertEqual(labels(root, "place-label"), [NASTY])
-        self.assertEqual(labels(root, "output-label"), [NASTY, "bell\ufffd"])
+        self.assertEqual(labels(root, "output-label"), [NASTY, "bell\\x07"])
         self.assertEqual(labels(root, "heading"), [NASTY])
         self.assertEqual(root.get("aria-label"), NASTY)
+
+    def test_names_are_harmless(self):
+        signs = {"\0": "\\x00", "\n": "\\n", "\t": "\\t", "\x1b": "\\x1b", "\ud800": "\\ud800", "\uffff": "\\uffff"}
+        for sign, written in signs.items():
+            diagram = made([f"a{sign}"], [f"b{sign}"], (0,), [(0, 0, 1)], (2,))
+            root = ElementTree.fromstring(svg.write(diagram, f"c{sign}"))
+            shown = [*labels(root, "place-label"), *labels(root, "output-label"), *labels(root, "heading")]
+            self.assertEqual(shown, [f"{letter}{written}" for letter in "abc"])
+            self.assertEqual(root.get("aria-label"), f"c{written}")
+            self.assertEqual(root.find(f"{SVG}desc").text, (
+                f"Binary decision diagram with complement edges: 1 cell for b{written}. Order: a{written}."
+            ))
+
+    def test_a_part_of_a_network_says_so(self):
+        root = ElementTree.fromstring(svg.write(BOUNCE_GUARD.only(["advance"])))
+        self.assertEqual(labels(root, "cell-label"), ["2", "3", "5", "7"])
+        self.assertEqual(root.find(f"{SVG}desc").text, (
+            "Binary decision diagram with complement edges: 4 of the network's 7 cells for advance. Order: held, a, b, c, d."
+        ))
+
+    def test_no_module_of_xml_is_imported(self):
+        code = f"import sys; sys.path[:0] = [{str(PYTHON)!r}]; import yavdocsil.pictures.svg; print(*sys.modules)"
+        run = subprocess.run([sys.executable, "-S", "-c", code], capture_output=True, check=True, encoding="utf-8")
+        self.assertEqual([name for name in run.stdout.split() if name.split(".")[0] == "xml"], [])
 
     def test_place_that_is_never_asked_is_thin(self):
         root = ElementTree.fromstring(svg.write(BOUNCE_GUARD))
@@ -412,49 +317,6 @@ class Svg(unittest.TestCase):
     def test_many_references_to_constants_have_boxes_of_their_own(self):
         self.assertTrue(layout.place(LARGE).stubs)
         self.assertFalse(layout.place(BOUNCE_GUARD).stubs)
-
-
-class Dot(unittest.TestCase):
-    def test_names_are_quoted(self):
-        written = dot.write(made([NASTY], ["y"], (0,), [(0, 0, 1)], (2,)), NASTY)
-        quoted = '"a<b>&amp;\\"c\'\\\\"'
-        self.assertIn(f"label={quoted}; labelloc=t;", written)
-        self.assertIn(f"place0 [label={quoted}, shape=plaintext];", written)
-
-    def test_constants_that_are_not_used_are_not_there(self):
-        written = dot.write(made("a", ["y"], (0,), [], (1,)))
-        self.assertIn("constant1 [", written)
-        self.assertNotIn("constant0", written)
-
-    def test_exclusive_or(self):
-        written = dot.write(XOR)
-        self.assertIn('cell1 -> cell2 [style=dashed, color="#2f4f86"];', written)
-        self.assertIn("cell1 -> cell2 [style=solid, arrowhead=dot, arrowsize=0.6];", written)
-
-
-class Text(unittest.TestCase):
-    def test_bounce_guard(self):
-        self.assertEqual(text.write(BOUNCE_GUARD).splitlines()[:8], [
-            "hold    -> 1",
-            "advance -> 2",
-            "",
-            "held      1: 0 -> 3, 1 -> 4               2: 0 -> 3, 1 -> const 0",
-            "a         3: 0 -> const 0, 1 -> 5         4: 0 -> 6, 1 -> const 1",
-            "b         (never asked)",
-            "c         5: 0 -> const 0, 1 -> 7         6: 0 -> 7, 1 -> const 1",
-            "d         7: 0 -> const 0, 1 -> const 1",
-        ])
-
-    def test_inverted_reference(self):
-        self.assertIn("left    1: 0 -> 2, 1 -> ~2", text.write(XOR))
-
-    def test_wide_levels_wrap(self):
-        lines = text.write(LARGE).splitlines()
-        self.assertLessEqual(max(map(len, lines)), 80)
-        self.assertGreater(len(lines), 50)
-
-    def test_no_inputs(self):
-        self.assertEqual(text.write(DIAGRAMS["no inputs"]).splitlines()[:3], ["one  -> const 1", "zero -> const 0", ""])
 
 
 if __name__ == "__main__":

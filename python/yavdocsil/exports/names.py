@@ -7,7 +7,7 @@ from collections.abc import Callable, Collection, Sequence
 from dataclasses import dataclass
 from itertools import chain, count
 
-from .diagram import Diagram
+from ..diagram import Diagram
 
 
 @dataclass(frozen=True)
@@ -34,7 +34,7 @@ def signals(diagram: Diagram, fits: Callable[[str], bool]) -> Names:
     given = _given(own, marks, fits)
     lines = [f"{mark}put {name!r} is {new}" for name, mark, new in zip(own, marks, given) if new != name]
     n = len(diagram.inputs)
-    return Names(tuple(given[:n]), tuple(given[n:]), _prefix(len(diagram.cells), given), tuple(lines))
+    return Names(tuple(given[:n]), tuple(given[n:]), _prefix(diagram.by_number, given), tuple(lines))
 
 
 def plain(name: str) -> str:
@@ -49,18 +49,18 @@ def _given(own: Sequence[str], marks: Sequence[str], fits: Callable[[str], bool]
     taken = {name for name, kept in zip(own, keeps) if kept}
     given = []
     for name, mark, kept in zip(own, marks, keeps):
-        given.append(name if kept else _unused(plain(name), mark, taken))
+        given.append(name if kept else _unused(plain(name), mark, taken, fits))
         taken.add(given[-1])
     return given
 
 
-def _unused(base: str, mark: str, taken: Collection[str]) -> str:
-    """The base itself, or base_in, base_in2, and so on, as long as they are taken."""
+def _unused(base: str, mark: str, taken: Collection[str], fits: Callable[[str], bool]) -> str:
+    """The base itself, or base_in, base_in2, and so on, as long as they are taken or don't fit."""
     others = chain([base, f"{base}_{mark}"], (f"{base}_{mark}{number}" for number in count(2)))
-    return next(name for name in others if name not in taken)
+    return next(name for name in others if name not in taken and fits(name))
 
 
-def _prefix(cells: int, taken: Collection[str]) -> str:
+def _prefix(cells: Collection[int], taken: Collection[str]) -> str:
     """What comes before a cell's number, so that no cell has a name that is taken."""
     prefixes = ("cell" + "_" * more for more in count())
-    return next(prefix for prefix in prefixes if not any(f"{prefix}{number}" in taken for number in range(1, cells + 1)))
+    return next(prefix for prefix in prefixes if not any(f"{prefix}{number}" in taken for number in cells))

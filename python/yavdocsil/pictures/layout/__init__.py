@@ -7,7 +7,7 @@ So no edge runs through a node. Where many edges lead to constants, each has a b
 
 from __future__ import annotations
 
-from ..diagram import Diagram
+from ...diagram import Diagram
 from .across import place_across
 from .down import place_down, rise
 from .graph import connected, widen

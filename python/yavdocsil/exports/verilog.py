@@ -1,11 +1,16 @@
-"""A network as Verilog: a wire with `?:` for each cell, and an assignment for each output."""
+"""A network as Verilog: a wire with `?:` for each cell, and an assignment for each output.
+
+It has the form that Icarus, Yosys and ABC all read; ABC takes no kinds of ports in the module's head, and no wire that is assigned where
+it is declared.
+"""
 
 from __future__ import annotations
 
 import re
+from collections.abc import Sequence
 
 from . import names
-from .diagram import Diagram, cell_of, is_inverted
+from ..diagram import Cell, Diagram, cell_of, is_inverted
 from .names import Names
 
 # Of IEEE 1364-2005 and, since many tools read every file so, IEEE 1800-2017.
@@ -31,36 +36,49 @@ KEYWORDS = frozenset(
 
 
 def write(diagram: Diagram, name: str = "network") -> str:
-    """The network as one module; the cells of the deepest place come first, so that none is used before it is declared."""
+    """The network as one module: its ports and wires, its cells in sequence, its outputs."""
     called = names.signals(diagram, fits)
-    ports = [f"input wire {spelled(port)}" for port in called.inputs] + [f"output wire {spelled(port)}" for port in called.outputs]
     lines = [
         *(f"// {line}" for line in called.replaced),
-        f"module {spelled(name if fits(name) else names.plain(name))} (",
-        *(f"    {port}," for port in ports[:-1]),
-        f"    {ports[-1]}",
-        ");",
+        f"module {spelled(name if fits(name) else names.plain(name))} ({_list([*called.inputs, *called.outputs])});",
+        *_declared("input", called.inputs),
+        *_declared("output", called.outputs),
     ]
-    for cell in sorted(diagram.cells, key=lambda cell: (-cell.place, cell.number)):
-        select = spelled(called.inputs[diagram.order[cell.place]])
-        low, high = _reference(cell.low, called), _reference(cell.high, called)
-        lines.append(f"    wire {called.cell(cell.number)} = {select} ? {high} : {low};")
+    for place in range(len(diagram.inputs)):
+        lines += _declared("wire", [called.cell(cell.number) for cell in diagram.cells_at(place)])
+    lines += [_selector(cell, called.inputs[diagram.order[cell.place]], called) for cell in diagram.cells]
     lines += [f"    assign {spelled(output)} = {_reference(root, called)};" for output, root in zip(called.outputs, diagram.roots)]
     return "\n".join([*lines, "endmodule", ""])
 
 
 def fits(name: str) -> bool:
-    """Whether Verilog takes a name, if only escaped: printable ASCII.
+    """Whether a name can be taken, if only escaped: printable ASCII, but for what a tool mistakes even there.
 
-    Preprocessors take a backtick for a macro even there, and Icarus mistakes a `*` or `#` in front; such names are replaced, too.
+    Preprocessors take a backtick for a macro. ABC takes parentheses, `,` and `;` for those of the language, a name that begins as a number
+    with a size for a constant, and `wire` for the word. Icarus takes `#` for the base of a class, and `*` for all ports.
     """
-    return re.fullmatch(r"(?![#*])[!-_a-~]+", name) is not None
+    mistaken = re.match(r"\d+'", name) is not None or name in ("wire", "#", "*")
+    return re.fullmatch(r"[!-~]+", name) is not None and not mistaken and not set(name) & set("`(),;")
 
 
 def spelled(name: str) -> str:
     """A name that fits, as it is where that is an identifier, else escaped; a blank ends it then."""
     simple = re.fullmatch(r"[A-Za-z_][A-Za-z0-9_$]*", name) and name not in KEYWORDS
     return name if simple else f"\\{name} "
+
+
+def _list(called: Sequence[str]) -> str:
+    return ", ".join(map(spelled, called))
+
+
+def _declared(kind: str, called: Sequence[str]) -> list[str]:
+    """The line that declares signals of a kind; none where there are none."""
+    return [f"    {kind} {_list(called)};"] if called else []
+
+
+def _selector(cell: Cell, select: str, called: Names) -> str:
+    """A cell; `?:` is what it does, and tools that map to multiplexers look for it."""
+    return f"    assign {called.cell(cell.number)} = {spelled(select)} ? {_reference(cell.high, called)} : {_reference(cell.low, called)};"
 
 
 def _reference(reference: int, called: Names) -> str:

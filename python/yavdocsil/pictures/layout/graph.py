@@ -2,7 +2,7 @@
 
 from __future__ import annotations
 
-from ..diagram import Diagram, cell_of, is_constant
+from ...diagram import Diagram, cell_of, is_constant
 from .parts import (
     BEND, BEND_SPACE, CELL, CELL_WIDTH, CONSTANT, HIGH, LOW, NODE_SPACE, PORT_MARGIN, ROOT, Edge, Layout, Node, Row, Segment, Stub,
     text_width,

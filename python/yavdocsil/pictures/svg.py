@@ -5,28 +5,25 @@ Rows are the places from top to bottom, each labelled with its input. A 1-edge i
 
 from __future__ import annotations
 
-import re
-from xml.sax.saxutils import escape, quoteattr
-
-from . import layout
-from .diagram import Diagram, cell_of, is_constant, is_inverted
+from . import DOT, FAINT, INK, LEGEND_INK, SHADE, escaped, layout, shown
+from ..diagram import Diagram, cell_of, is_constant, is_inverted
+from ..display import harmless
 from .layout.parts import (
     CELL, LOW, MARGIN, NODE_HEIGHT, ROOT, STUB_DROP, STUB_SIZE, Edge, Layout, Node, Piece, Point, Row, Stub, text_width,
 )
 
-INK, SHADE, FAINT, BAND, THIN_BAND, DOT = "#1b1b1f", "#2f4f86", "#8a8a92", "#f0f1f4", "#f6f6f8", "#b01e1e"
+BAND, THIN_BAND = "#f0f1f4", "#f6f6f8"
 FONT = "'DejaVu Sans Mono', Menlo, Consolas, monospace"
 DOT_RADIUS, DOT_ABOVE = 3.3, 6.0
 LEGEND_HEIGHT, LEGEND_WIDTH, TITLE_HEIGHT = 26.0, 330.0, 28.0
 
-# What XML can't hold, not even escaped.
-UNWRITABLE = re.compile("[^\t\n\r\x20-\ud7ff\ue000-\ufffd\U00010000-\U0010ffff]")
 # In a browser, the edges that leave a cell stand out while the pointer is on it.
 STYLE = ".yavdocsil .cell:hover path, .yavdocsil .output:hover path { stroke-width: 3.2 }"
 
 
 def write(diagram: Diagram, title: str = "") -> str:
     """The picture as the text of an SVG file."""
+    diagram, title = shown(diagram), harmless(title)
     placed = layout.place(diagram)
     labels = max((text_width(diagram.input_at(place)) for place in range(len(diagram.inputs))), default=0.0)
     left = labels + MARGIN if labels else 0.0
@@ -56,16 +53,9 @@ def _number(value: float) -> str:
     return f"{round(value, 1) + 0.0:.1f}".removesuffix(".0")
 
 
-def _clean(text: str) -> str:
-    return UNWRITABLE.sub("\ufffd", text)
-
-
-def _text(text: str) -> str:
-    return escape(_clean(text))
-
-
 def _attribute(text: str) -> str:
-    return quoteattr(_clean(text))
+    """A text as the value of an attribute, in quotes."""
+    return '"' + escaped(text).replace('"', "&quot;") + '"'
 
 
 # The frame.
@@ -74,13 +64,12 @@ def _attribute(text: str) -> str:
 def _opening(diagram: Diagram, title: str, width: float, height: float) -> list[str]:
     """The outermost element, its description and the background."""
     size = f'width="{_number(width)}" height="{_number(height)}" viewBox="0 0 {_number(width)} {_number(height)}"'
-    cells = f"{len(diagram.cells)} cell{'' if len(diagram.cells) == 1 else 's'}"
-    summary = f"Binary decision diagram with complement edges: {cells} for {', '.join(diagram.outputs)}"
+    summary = f"Binary decision diagram with complement edges: {diagram.size} for {', '.join(diagram.outputs)}"
     return [
         f'<svg xmlns="http://www.w3.org/2000/svg" class="yavdocsil" role="img" aria-label={_attribute(title or summary)} {size} '
         f'font-family="{FONT}" font-size="13" fill="{INK}">',
-        f"<title>{_text(title or summary)}</title>",
-        f"<desc>{_text(summary)}. Order: {_text(', '.join(map(diagram.input_at, range(len(diagram.inputs)))))}.</desc>",
+        f"<title>{escaped(title or summary)}</title>",
+        f"<desc>{escaped(summary)}. Order: {escaped(', '.join(map(diagram.input_at, range(len(diagram.inputs)))))}.</desc>",
         f"<style>{STYLE}</style>",
         '<rect class="background" width="100%" height="100%" fill="#ffffff"/>',
     ]
@@ -89,7 +78,7 @@ def _opening(diagram: Diagram, title: str, width: float, height: float) -> list[
 def _heading(title: str) -> list[str]:
     if not title:
         return []
-    return [f'<text class="heading" x="{_number(MARGIN)}" y="23" font-size="14" font-weight="bold">{_text(title)}</text>']
+    return [f'<text class="heading" x="{_number(MARGIN)}" y="23" font-size="14" font-weight="bold">{escaped(title)}</text>']
 
 
 def _bands(diagram: Diagram, placed: Layout, width: float) -> list[str]:
@@ -99,7 +88,7 @@ def _bands(diagram: Diagram, placed: Layout, width: float) -> list[str]:
         row = placed.rows[place + 1]
         fill, ink = (THIN_BAND, FAINT) if row.is_thin else (BAND, INK)
         never = ": never asked" if row.is_thin else ""
-        name = _text(diagram.input_at(place))
+        name = escaped(diagram.input_at(place))
         parts.append(
             f'<g class="place"><title>{name}{never}</title>'
             f'<rect y="{_number(row.top)}" width="{_number(width)}" height="{_number(row.bottom - row.top)}" fill="{fill}"/>'
@@ -112,7 +101,7 @@ def _legend(height: float) -> list[str]:
     y = height - 11
     line = f'y1="{_number(y - 4)}" y2="{_number(y - 4)}" stroke-width="1.5"'
     return [
-        f'<g class="legend" font-size="11" fill="#55555c">'
+        f'<g class="legend" font-size="11" fill="{LEGEND_INK}">'
         f'<line x1="14" x2="42" {line} stroke="{INK}"/><text x="48" y="{_number(y)}">1-edge</text>'
         f'<line x1="106" x2="134" {line} stroke="{SHADE}" stroke-dasharray="5 3"/><text x="140" y="{_number(y)}">0-edge</text>'
         f'<line x1="198" x2="226" {line} stroke="{INK}"/><circle cx="219" cy="{_number(y - 4)}" r="{DOT_RADIUS}" fill="{DOT}"/>'
@@ -140,8 +129,8 @@ def _root(diagram: Diagram, node: Node, placed: Layout, edges: list[str]) -> str
     way = f'transform="rotate({_number(-placed.slant)} {x} {y})"' if placed.slant else 'text-anchor="middle"'
     name = diagram.outputs[node.number]
     says = f"{name} -> {_target(diagram.roots[node.number])}"
-    label = f'<text class="output-label" x="{x}" y="{y}" {way} font-weight="bold">{_text(name)}</text>'
-    return f'<g class="output"><title>{_text(says)}</title>{"".join(edges)}{label}</g>'
+    label = f'<text class="output-label" x="{x}" y="{y}" {way} font-weight="bold">{escaped(name)}</text>'
+    return f'<g class="output"><title>{escaped(says)}</title>{"".join(edges)}{label}</g>'
 
 
 def _node(diagram: Diagram, node: Node, row: Row, edges: list[str]) -> str:
@@ -154,13 +143,13 @@ def _node(diagram: Diagram, node: Node, row: Row, edges: list[str]) -> str:
         f'width="{_number(node.width)}" height="{_number(NODE_HEIGHT)}" rx="{radius}" fill="#ffffff" stroke="{INK}" stroke-width="1.4"/>'
     )
     label = f'<text class="{kind}-label" x="{x}" y="{y}" text-anchor="middle">{node.number}</text>'
-    return f'<g class="{kind}"><title>{_text(_says(diagram, node))}</title>{"".join(edges)}{shape}{label}</g>'
+    return f'<g class="{kind}"><title>{escaped(_says(diagram, node))}</title>{"".join(edges)}{shape}{label}</g>'
 
 
 def _says(diagram: Diagram, node: Node) -> str:
     if node.kind != CELL:
         return f"constant {node.number}"
-    cell = diagram.cells[node.number - 1]
+    cell = diagram.by_number[node.number]
     return f"cell {cell.number} asks {diagram.input_at(cell.place)}: 0 -> {_target(cell.low)}, 1 -> {_target(cell.high)}"
 
 

@@ -2,12 +2,12 @@
 
 from __future__ import annotations
 
-import unicodedata
 from collections.abc import Iterator
 from dataclasses import dataclass, field
 from typing import Union
 
-from ..diagram import is_inverted
+from ...diagram import is_inverted
+from ...display import columns
 
 ROOT, CELL, CONSTANT, BEND = "root", "cell", "constant", "bend"
 LOW, HIGH = "low", "high"
@@ -135,5 +135,5 @@ class Layout:
 
 
 def text_width(text: str) -> float:
-    """The width of a name in a monospaced type; wide characters take two columns."""
-    return CHARACTER * sum(2 if unicodedata.east_asian_width(character) in "WF" else 1 for character in text)
+    """The width of a name in a monospaced type."""
+    return CHARACTER * columns(text)

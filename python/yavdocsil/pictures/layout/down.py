@@ -4,7 +4,7 @@ from __future__ import annotations
 
 import math
 
-from ..diagram import Diagram
+from ...diagram import Diagram
 from .parts import MARGIN, NODE_HEIGHT, STUB_DROP, STUB_SIZE, Layout, Node, Row, Segment, text_width
 
 STEM = 11.0

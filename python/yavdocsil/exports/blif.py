@@ -5,7 +5,7 @@ from __future__ import annotations
 import re
 
 from . import names
-from .diagram import Cell, Diagram, cell_of, is_constant, is_inverted
+from ..diagram import Cell, Diagram, cell_of, is_constant, is_inverted
 from .names import Names
 
 

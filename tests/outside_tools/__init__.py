@@ -1,0 +1,1 @@
+"""What outside.py is made of: the networks that are compared, and a module for each tool or kind of tool."""
