@@ -1,8 +1,8 @@
 """Yavdocsil: turns a truth table with don't-cares into the smallest network of two-way selectors, and sifts its order.
 
-    from yavdocsil import Network, Table
+    from yavdocsil import Network
 
-    network = Network(Table.from_drawing(open("examples/bounce-guard.txt").read()))
+    network = Network.from_path("examples/bounce-guard.txt")
     network.sift_all()
     print(network.build(), "cells in the order", network.order)
 
@@ -13,5 +13,7 @@ from .diagram import Cell, Diagram
 from .errors import Error, Malformed, NotBuilt, Refused
 from .network import Network
 from .table import Table
+
+__version__ = "1.8.0"
 
 __all__ = ["Cell", "Diagram", "Error", "Malformed", "Network", "NotBuilt", "Refused", "Table"]

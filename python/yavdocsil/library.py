@@ -7,17 +7,23 @@ from __future__ import annotations
 
 import ctypes
 import functools
+import operator
 import os
 import pathlib
-from typing import Any
+import platform
+from collections.abc import Callable, Sequence
+from typing import Any, SupportsIndex, Union
 
 from . import bits
-from .content import Mark
 from .errors import NotBuilt, Refused
+from .reading import MOST_INPUTS, Mark
 
 VARIABLE = "YAVDOCSIL_LIBRARY"
-CHECKOUT = pathlib.Path(__file__).resolve().parent.parent.parent
-BUILT = CHECKOUT / "target" / "lib" / "libyavdocsil.so"
+FILE = "libyavdocsil.so"
+PACKAGE = pathlib.Path(__file__).resolve().parent
+# In the package itself, where an installed one has it, and in a checkout.
+INSTALLED, BUILT = PACKAGE / FILE, PACKAGE.parent.parent / "target" / "lib" / FILE
+NOT_THERE = "cannot open shared object file: No such file or directory"
 
 STATE_WORDS, TABLE_BYTES, WORK_BYTES, ROOTS, MOST_CELLS = 40, 2048, 32768, 16, 2159
 FILE_BYTES, BLOCK_BYTES, BLOCK_CELLS = 13824, 512, 84
@@ -27,10 +33,15 @@ MOST_BOARD = 2**15 - 1
 INPUTS, OUTPUTS, COUNT, STAGE, ORDER = 0, 1, 2, 3, 8
 TABLE, NETWORK = 1, 2
 
-# The numbers that a call takes beside its slices.
-NUMBERS = {
-    "row": ctypes.c_uint64, "place": ctypes.c_uint64, "input": ctypes.c_uint64,
-    "limit": ctypes.c_uint32, "least": ctypes.c_uint32,
+# The elements of the slices that a call takes, and the numbers beside them.
+SLICES: dict[str, Any] = {
+    "state": ctypes.c_uint64,
+    "file": ctypes.c_uint8, "values": ctypes.c_uint8, "care": ctypes.c_uint8, "work": ctypes.c_uint8,
+    "roots": ctypes.c_uint16, "cells": ctypes.c_uint16, "rows": ctypes.c_uint16, "answers": ctypes.c_uint16,
+    "counts": ctypes.c_uint32, "gains": ctypes.c_int32,
+}
+NUMBERS: dict[str, Any] = {
+    "place": ctypes.c_uint64, "input": ctypes.c_uint64, "limit": ctypes.c_uint32, "least": ctypes.c_uint32,
 }
 # The calls with their arguments, in sequence.
 CALLS = {
@@ -50,36 +61,77 @@ CALLS = {
 }
 
 
+# The file.
+
+
 def path() -> pathlib.Path:
-    """The library's file: what the environment names, or the one that ./build leaves beside this package."""
+    """The library's file: the one that the environment names, or else the one in this package, or else the one that ./build leaves."""
     named = os.environ.get(VARIABLE)
-    found = pathlib.Path(named) if named else BUILT
-    if not found.is_file():
-        where = f"{VARIABLE} names {found}" if named else f"it should be {found}"
+    places = [pathlib.Path(named)] if named else [INSTALLED, BUILT]
+    found = next((place for place in places if place.is_file()), None)
+    if found is None:
+        where = f"{VARIABLE} names {named}" if named else f"it should be {BUILT}"
         raise NotBuilt(f"the library isn't there: {where}; ./build makes it, or {VARIABLE} says where it is")
-    return found
+    # A bare name would be looked for elsewhere.
+    return pathlib.Path(os.path.abspath(found))
 
 
 @functools.lru_cache(maxsize=None)
-def opened() -> ctypes.CDLL:
-    return ctypes.CDLL(str(path()))
+def opened() -> dict[str, Callable[..., int]]:
+    """The library's calls. It is opened once."""
+    return calls_of(path())
 
 
-def numbers(kind: Any, content: Any) -> ctypes.Array:
-    """A buffer of numbers: so many zeros, or what is given."""
-    return (kind * content)() if isinstance(content, int) else (kind * len(content))(*content)
+def calls_of(file: pathlib.Path) -> dict[str, Callable[..., int]]:
+    """The calls of a library's file, by name. Whatever has not all of them is another library, or an older one."""
+    remedy = f"./build makes it anew, or {VARIABLE} says where it is"
+    try:
+        library = ctypes.CDLL(str(file))
+    except OSError as error:
+        raise NotBuilt(f"the library {file} can't be loaded: {why_not(file, error)}; {remedy}") from error
+    missing = [f"yav_{name}" for name in CALLS if not hasattr(library, f"yav_{name}")]
+    if missing:
+        raise NotBuilt(f"the library {file} is another one, or older: it has no {missing[0]}; {remedy}")
+    return {name: typed(getattr(library, f"yav_{name}"), arguments.split()) for name, arguments in CALLS.items()}
 
 
-def octets(content: Any) -> ctypes.Array:
-    return numbers(ctypes.c_uint8, content)
+def why_not(file: pathlib.Path, error: OSError) -> str:
+    """Why a file that is there can't be loaded. Of one for another processor the loader says that it isn't there."""
+    said = str(error).removeprefix(f"{file}: ")
+    return f"it is for another machine than this, {platform.machine()}" if said == NOT_THERE else said
 
 
-def fitted(argument: str, given: int) -> Any:
+def typed(function: Any, arguments: Sequence[str]) -> Callable[..., int]:
+    """A function of the library that takes these arguments, and nothing of another kind."""
+    kinds = [[NUMBERS[name]] if name in NUMBERS else [ctypes.POINTER(SLICES[name]), ctypes.c_size_t] for name in arguments]
+    function.argtypes = [kind for each in kinds for kind in each]
+    function.restype = ctypes.c_uint64
+    call: Callable[..., int] = function
+    return call
+
+
+# Calls.
+
+
+def buffer(argument: str, content: Union[int, bytes, Sequence[int]]) -> ctypes.Array[Any]:
+    """A buffer to be lent: so many zeros, or the bytes or numbers that are given."""
+    kind = SLICES[argument]
+    made: ctypes.Array[Any]
+    if isinstance(content, int):
+        made = (kind * content)()
+    elif isinstance(content, bytes):
+        made = (kind * (len(content) // ctypes.sizeof(kind))).from_buffer_copy(content)
+    else:
+        made = (kind * len(content))(*content)
+    return made
+
+
+def fitted(argument: str, given: SupportsIndex) -> int:
     """A number as its argument takes it. One that doesn't fit would be taken for another."""
-    passed = NUMBERS[argument](given)
-    if passed.value != given:
-        raise ValueError(f"{given} is out of range for a {argument}")
-    return passed
+    number = operator.index(given)
+    if NUMBERS[argument](number).value != number:
+        raise ValueError(f"{number} is out of range for a {argument}")
+    return number
 
 
 def call(name: str, **arguments: Any) -> int:
@@ -87,23 +139,31 @@ def call(name: str, **arguments: Any) -> int:
     passed: list[Any] = []
     for argument in CALLS[name].split():
         given = arguments[argument]
-        passed += [fitted(argument, given)] if argument in NUMBERS else [given, ctypes.c_size_t(len(given))]
-    function = opened()[f"yav_{name}"]
-    function.restype = ctypes.c_uint64
-    number, value = divmod(function(*passed), 2**32)
+        passed += [fitted(argument, given)] if argument in NUMBERS else [given, len(given)]
+    number, value = divmod(opened()[name](*passed), 2**32)
     if number:
         raise Refused(number, value, len(arguments["cells"]) // 3 if "cells" in arguments else None)
     return value
 
 
 class Buffers:
-    """A state and what is lent with it, all zero at first."""
+    """A state and what is lent with it, all zero at first. Copied or pickled, each buffer is its bytes, so none is shared."""
 
-    def __init__(self, board: int = MOST_CELLS) -> None:
-        self.state = numbers(ctypes.c_uint64, STATE_WORDS)
-        self.values, self.care, self.work = octets(TABLE_BYTES), octets(TABLE_BYTES), octets(WORK_BYTES)
-        self.roots = numbers(ctypes.c_uint16, ROOTS)
-        self.cells = numbers(ctypes.c_uint16, 3 * board)
+    def __init__(self, board: SupportsIndex = MOST_CELLS) -> None:
+        cells = operator.index(board)
+        if not 0 <= cells <= MOST_BOARD:
+            raise ValueError(f"a board has 0 to {MOST_BOARD} cells, not {cells}")
+        self.state = buffer("state", STATE_WORDS)
+        self.values, self.care = buffer("values", TABLE_BYTES), buffer("care", TABLE_BYTES)
+        self.work = buffer("work", WORK_BYTES)
+        self.roots, self.cells = buffer("roots", ROOTS), buffer("cells", 3 * cells)
+        self.counts = buffer("counts", 2**MOST_INPUTS)
+
+    def __getstate__(self) -> dict[str, bytes]:
+        return {name: bytes(lent) for name, lent in vars(self).items()}
+
+    def __setstate__(self, saved: dict[str, bytes]) -> None:
+        vars(self).update((name, buffer(name, content)) for name, content in saved.items())
 
     @property
     def columns(self) -> tuple[tuple[Mark, ...], ...]:
@@ -116,3 +176,10 @@ class Buffers:
     def call(self, name: str, **others: Any) -> int:
         """A call on these buffers, and on what is given beside them."""
         return call(name, **{**vars(self), **others})
+
+    def built_apart(self) -> Buffers:
+        """The network of the table held here, in buffers of its own: what is held stays, and so does the board."""
+        own = Buffers()
+        own.state[:] = self.state[:]
+        own.call("build", values=self.values, care=self.care)
+        return own

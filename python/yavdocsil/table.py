@@ -2,19 +2,25 @@
 
 from __future__ import annotations
 
-from collections.abc import Iterable, Sequence
+import os
+import pathlib
+from collections.abc import Callable, Iterable, Sequence
 from dataclasses import dataclass, replace
-from typing import Optional
+from typing import Any, Optional, Union
 
-from . import drawing, pla, table_file
-from .content import MARKS, MOST_INPUTS, MOST_OUTPUTS, Mark, names_from
+from . import bits
+from .display import harmless, many
+from .errors import Faults
+from .reading import MARKS, MOST_INPUTS, MOST_OUTPUTS, Content, Mark, blif, drawing, names_from, pla, sheet, table_file
+from .reading.words import BYTE_ORDER_MARK
 
 
-@dataclass(frozen=True)
+@dataclass(frozen=True, repr=False)
 class Table:
     """`columns[j][r]` is output j's mark in row r; in a row number input 0 is the most significant bit.
 
-    `order` has the input of each place, the top place first.
+    `order` has the input of each place, the top place first. Other sequences and other kinds of integers may be given, NumPy's too: what
+    is held are tuples and plain integers, so tables can be compared and be keys.
     """
 
     columns: tuple[tuple[Mark, ...], ...]
@@ -23,6 +29,9 @@ class Table:
     order: tuple[int, ...]
 
     def __post_init__(self) -> None:
+        self._hold("columns", tuple(_column(output, marks) for output, marks in enumerate(self.columns)))
+        self._hold("inputs", _names(self.inputs))
+        self._hold("outputs", _names(self.outputs))
         if not len(self.inputs) <= MOST_INPUTS:
             raise ValueError(f"a table has at most {MOST_INPUTS} inputs, not {len(self.inputs)}")
         if not 1 <= len(self.columns) <= MOST_OUTPUTS:
@@ -31,12 +40,16 @@ class Table:
             raise ValueError("every output has one name")
         if any(len(column) != 2 ** len(self.inputs) for column in self.columns):
             raise ValueError(f"every output has {2 ** len(self.inputs)} rows")
-        if any(mark not in (0, 1, None) for column in self.columns for mark in column):
-            raise ValueError("a mark is 0, 1 or None")
-        if sorted(self.order) != list(range(len(self.inputs))):
-            raise ValueError("the order has each input once")
-        if len(set(self.inputs)) != len(self.inputs) or len(set(self.outputs)) != len(self.outputs):
-            raise ValueError("no two inputs and no two outputs have the same name")
+        self._hold("order", _order(self.order, len(self.inputs)))
+
+    def _hold(self, field: str, content: tuple[Any, ...]) -> None:
+        # A table is frozen, and this its making.
+        object.__setattr__(self, field, content)
+
+    def __repr__(self) -> str:
+        """Short: a table of ten inputs has thousands of marks."""
+        cared, marks = self.cared, len(self.columns) * len(self.columns[0])
+        return described("Table", self.inputs, self.outputs, self.order, f"{many(cared, 'mark')} cared, {marks - cared} free")
 
     @property
     def rows(self) -> list[str]:
@@ -55,13 +68,17 @@ class Table:
     @classmethod
     def from_rows(
         cls,
-        rows: Iterable[str],
+        rows: Iterable[Union[Mark, Iterable[Union[str, Mark]]]],
         inputs: Optional[Sequence[str]] = None,
         outputs: Optional[Sequence[str]] = None,
         order: Optional[Sequence[int]] = None,
     ) -> Table:
-        """From each row's marks, `0`, `1` or `-`, one for each output: `Table.from_rows(["0", "1", "1", "0"])` is exclusive-or."""
-        marks = [[MARKS[mark] for mark in row] for row in rows]
+        """From each row's marks, one for each output: `Table.from_rows(["0", "1", "1", "0"])` is exclusive-or.
+
+        A mark is `0`, `1` or `-` as text, else 0, 1 or None: `Table.from_rows([[0, 1], [1, None]])` has a free one. Of one output the
+        marks themselves will do: `Table.from_rows([0, 1, 1, 0])`.
+        """
+        marks = [_row(number, row) for number, row in enumerate(rows)]
         n = max(len(marks).bit_length() - 1, 0)
         if len(marks) != 2**n or any(len(row) != len(marks[0]) for row in marks):
             raise ValueError("a table has a power of two of rows, each with a mark for every output")
@@ -73,21 +90,52 @@ class Table:
             tuple(range(n)) if order is None else tuple(order),
         )
 
+    # Texts and files, as docs/FORMATS.md has them.
+
+    @classmethod
+    def from_path(cls, path: Union[str, os.PathLike[str]], kind: Optional[str] = None) -> Table:
+        """From a file, whose ending tells its format, or which is of the kind that is named."""
+        # It imports this module.
+        from . import formats
+
+        return formats.read_table(pathlib.Path(path), kind)
+
     @classmethod
     def from_drawing(cls, text: str) -> Table:
-        """From a drawing, as docs/FORMATS.md has it."""
-        return cls(*drawing.read(text))
+        """From a drawing."""
+        return cls._from_text(drawing.read, text)
 
     def to_drawing(self) -> str:
         return drawing.write(self)
 
     @classmethod
     def from_pla(cls, text: str) -> Table:
-        """From a PLA, as espresso has it; docs/FORMATS.md says what is taken."""
-        return cls(*pla.read(text))
+        """From a PLA, as espresso has it."""
+        return cls._from_text(pla.read, text)
 
     def to_pla(self) -> str:
         return pla.write(self)
+
+    @classmethod
+    def from_csv(cls, text: str) -> Table:
+        """From a spreadsheet's rows, with commas between."""
+        return cls._from_text(sheet.read, text)
+
+    def to_csv(self) -> str:
+        return sheet.write(self)
+
+    @classmethod
+    def from_blif(cls, text: str) -> Table:
+        """From a BLIF: what its model computes; free is what its .exdc says."""
+        return cls._from_text(blif.read, text)
+
+    @classmethod
+    def _from_text(cls, read: Callable[[str, Optional[Faults]], Content], text: str) -> Table:
+        """What a reader takes from a text. What isn't as it should be in it is warned of."""
+        faults = Faults()
+        table = cls(*read(text.removeprefix(BYTE_ORDER_MARK), faults))
+        faults.warn()
+        return table
 
     @classmethod
     def from_file(cls, data: bytes) -> Table:
@@ -96,3 +144,59 @@ class Table:
 
     def to_file(self) -> bytes:
         return table_file.write(self)
+
+
+def described(kind: str, inputs: Sequence[str], outputs: Sequence[str], order: Sequence[int], held: str) -> str:
+    """A table or a network on one line, with what it holds."""
+    names = harmless(" ".join(inputs[number] for number in order))
+    places = f", in the order {names}" if inputs else ""
+    return f"<{kind} of {many(len(inputs), 'input')}, {many(len(outputs), 'output')}: {held}{places}>"
+
+
+# What is given, as it is held.
+
+
+def _row(number: int, row: Any) -> list[Any]:
+    """A row's marks, those of text as they are held; whether the others are marks is asked of each output."""
+    marks = list(row) if isinstance(row, Iterable) else [row]
+    for output, mark in enumerate(marks):
+        if isinstance(mark, str):
+            if mark not in MARKS:
+                raise _no_mark(output, number, mark, "0, 1 or -")
+            marks[output] = MARKS[mark]
+    return marks
+
+
+def _column(output: int, marks: Iterable[Any]) -> tuple[Mark, ...]:
+    """An output's marks."""
+    held: list[Mark] = []
+    for row, mark in enumerate(marks):
+        try:
+            held.append(None if mark is None else bits.plain(mark))
+        except ValueError:
+            raise _no_mark(output, row, mark, "0, 1 or None") from None
+    return tuple(held)
+
+
+def _no_mark(output: int, row: int, mark: object, marks: str) -> ValueError:
+    return ValueError(f"output {output}, row {row}: {bits.shown(mark)} is no mark, which is {marks}")
+
+
+def _names(given: Iterable[Any]) -> tuple[str, ...]:
+    """The names of the inputs or of the outputs."""
+    names = tuple(given)
+    for name in names:
+        if not isinstance(name, str):
+            raise ValueError(f"a name is text, not {bits.shown(name)}")
+    if len(set(names)) != len(names):
+        raise ValueError("no two inputs and no two outputs have the same name")
+    return names
+
+
+def _order(given: Iterable[Any], n: int) -> tuple[int, ...]:
+    """The input of each place, by its number."""
+    held = tuple(map(bits.integer, given))
+    order = tuple(number for number in held if number is not None)
+    if len(order) != len(held) or sorted(order) != list(range(n)):
+        raise ValueError("the order has each input once")
+    return order
