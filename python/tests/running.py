@@ -21,9 +21,12 @@ PAIRS = "examples/and-or.txt"
 CROSSED = "examples/and-or-crossed.txt"
 
 
-def yav(*words, given=""):
-    """The command in the checkout, with what is given on standard input."""
-    return subprocess.run([str(ROOT / "yav"), *map(str, words)], cwd=ROOT, capture_output=True, text=True, input=given)
+def yav(*words, given="", **environment):
+    """The command in the checkout, with what is given on standard input, and in the environment."""
+    command = [str(ROOT / "yav"), *map(str, words)]
+    return subprocess.run(
+        command, cwd=ROOT, capture_output=True, encoding="utf-8", input=given, env={**os.environ, "COLUMNS": "80", **environment},
+    )
 
 
 def called(*words, given=""):
@@ -60,10 +63,10 @@ class WithFolder(unittest.TestCase):
         path.write_bytes(content.encode("utf-8") if isinstance(content, str) else content)
         return path
 
-    def written(self, *words, given=""):
-        """What a command writes to standard output."""
+    def written(self, *words, given="", beside=""):
+        """What a command writes to standard output, with this beside it on standard error."""
         run = self.run_by(*words, given=given)
-        self.assertEqual((run.returncode, run.stderr), (0, ""))
+        self.assertEqual((run.returncode, run.stderr), (0, beside))
         return run.stdout
 
     def refused(self, wanted, *words, given=""):
@@ -72,6 +75,7 @@ class WithFolder(unittest.TestCase):
         run = self.run_by(*words, given=given)
         self.assertEqual((run.returncode, run.stdout), (1, ""), run.stderr)
         self.assertEqual(run.stderr.count("\n"), 1, run.stderr)
+        self.assertTrue(run.stderr.startswith("yav: "), run.stderr)
         self.assertIn(wanted, run.stderr)
         self.assertEqual(sorted(self.folder.iterdir()), before)
 
@@ -79,5 +83,5 @@ class WithFolder(unittest.TestCase):
         """The usage and what is wrong, status 2."""
         run = self.run_by(*words)
         self.assertEqual((run.returncode, run.stdout), (2, ""), run.stderr)
-        self.assertTrue(run.stderr.startswith("usage: "))
+        self.assertTrue(run.stderr.startswith("usage: yav "), run.stderr)
         self.assertIn(wanted, run.stderr.splitlines()[-1])

@@ -1,11 +1,14 @@
 """Tests of the command: formats there and back, pictures and exports, and what a person is told of bad input."""
 
 import itertools
+import random
 import shlex
 import unittest
 import xml.etree.ElementTree
 
 from running import CROSSED, EXAMPLES, GUARD, ROOT, WithFolder, yav
+
+from yavdocsil import Table, __version__
 
 
 class Processes(WithFolder):
@@ -47,6 +50,32 @@ class Showing(Processes):
         self.assertTrue(self.written("show", GUARD, "--dot").startswith("digraph"))
         self.assertIn("held", self.written("show", GUARD))
         self.assertEqual(self.written("show", GUARD), self.written("show", GUARD, "--text"))
+        self.assertEqual(self.written("show", GUARD, "--to", "svg"), self.written("show", GUARD, "--svg"))
+
+    def test_one_output_alone(self):
+        alone = self.written("show", GUARD, "--output", "advance")
+        self.assertNotIn("hold", alone)
+        self.assertIn("advance -> 2\n", alone)
+        self.assertEqual(self.written("show", GUARD, "--output", "hold", "--output", "advance"), self.written("show", GUARD))
+        self.refused(f"yav: {GUARD}: there is no output z; there are hold advance\n", "show", GUARD, "--output", "z")
+
+    def test_the_width_of_the_terminal(self):
+        narrow, wide = (yav("show", GUARD, COLUMNS=columns).stdout for columns in ("40", "200"))
+        self.assertGreater(narrow.count("\n"), wide.count("\n"))
+        self.assertLessEqual(max(map(len, narrow.splitlines()[:-2])), 40)
+        out = self.folder / "out.txt"
+        yav("show", GUARD, "-o", out, COLUMNS="40")
+        self.assertEqual(out.read_text(), self.written("show", GUARD))
+
+    def test_large_networks(self):
+        chance = random.Random(1)
+        path = self.file("large.txt", Table.from_rows(["".join(chance.choice("01") for _ in range(4)) for _ in range(256)]).to_drawing())
+        hint = "is hard to read: --output NAME draws one output alone, --summary counts the cells of each place\n"
+        run = yav("show", path, "--svg")
+        self.assertRegex(run.stderr, rf"^yav: a picture of \d+ cells, \d,\d+ pixels wide, {hint}$")
+        self.assertRegex(yav("show", path, "--dot").stderr, rf"^yav: a picture of \d+ cells {hint}$")
+        for words in (("--summary",), ("--svg", "--output", "y0"), ()):
+            self.written("show", path, *words)
 
     def test_a_file_to_write(self):
         out = self.folder / "guard.svg"
@@ -80,11 +109,25 @@ class Showing(Processes):
         self.assertEqual(len(self.written("evaluate", "examples/xor.txt").splitlines()), 5)
 
 
+class Itself(Processes):
+    def test_version_and_usage(self):
+        self.assertEqual(self.written("--version"), f"yav {__version__}\n")
+        self.assertTrue(self.written("--help").startswith("usage: yav "))
+        self.assertTrue(self.written("show", "--help").startswith("usage: yav show "))
+        self.misused("required: WORD")
+        self.misused("required: FILE", "show")
+
+    def test_completion(self):
+        for shell in ("bash", "zsh", "fish"):
+            self.assertIn("evaluate", self.written("completion", shell))
+        self.misused("invalid choice: 'sh'", "completion", "sh")
+
+
 class Readme(Processes):
     def test_it_shows_what_is_written(self):
         lines = (ROOT / "README.md").read_text().splitlines()
         starts = [at for at, line in enumerate(lines) if line.startswith("    $ ./yav ")]
-        self.assertEqual(len(starts), 14)
+        self.assertEqual(len(starts), 16)
         for at in starts:
             shown = itertools.takewhile(lambda line: line.startswith("    ") and not line.startswith("    $"), lines[at + 1 :])
             run = yav(*shlex.split(lines[at])[2:])
@@ -107,7 +150,7 @@ class Telling(Processes):
         bad = self.bad((EXAMPLES / "xor.table").read_bytes()[:1000])
         self.refused("refused 1: ", "convert", bad, self.folder / "out.pla", "--from", "table")
         self.refused("refused 3: ", "export", self.bad((EXAMPLES / "xor.table").read_bytes()), "--blif", "--from", "cells")
-        self.refused("it is no text", "show", self.bad(b"\xff\xfe"), "--from", "drawing")
+        self.refused("it is no text\n", "show", self.bad(b"\xff\0\1"), "--from", "drawing")
         self.refused(f"{bad}: its ending tells no format", "show", self.bad(b""))
         self.refused("out.xyz: its ending tells no format: known are .txt, ", "convert", GUARD, self.folder / "out.xyz")
         self.refused("No such file", "show", self.folder / "none.txt")

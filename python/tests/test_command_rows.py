@@ -4,7 +4,8 @@ import unittest
 
 from running import CROSSED, EXAMPLES, GUARD, PAIRS, ROOT, WithFolder, yav
 
-from yavdocsil import Malformed, Network, Table, rows
+from yavdocsil import Malformed, Network, Table
+from yavdocsil.reading import rows
 
 SEEN = ("0000", "0000", "0011", "0101", "1100", "1100")
 
@@ -20,6 +21,20 @@ class Evaluating(WithFolder):
         told = self.written("evaluate", PAIRS, "0000", "--rows", first, "--rows", second)
         self.assertEqual(told, self.written("evaluate", PAIRS, "0000", "0011", "0101", "1111"))
         self.assertEqual(self.written("evaluate", PAIRS, "--rows", "-", given="0000\n0011\n"), self.written("evaluate", PAIRS, "0000", "0011"))
+
+    def test_options_between_the_file_and_the_rows(self):
+        wanted = self.written("evaluate", PAIRS, "1111", "0000")
+        for options in (("--sift",), ("--order", "d,c,b,a"), ("--board", "9"), ("--sift-input", "a", "--pass", "8")):
+            self.assertEqual(self.written("evaluate", PAIRS, *options, "1111", "0000"), wanted)
+
+    def test_rows_that_were_free_are_marked(self):
+        path = self.file("free.txt", Table.from_rows(["01", "1-", "--", "00"], ["a", "b"], ["up", "y"]).to_drawing())
+        lines = self.written("evaluate", path).splitlines()
+        self.assertEqual([line.partition(" free")[1:] for line in lines[1:]], [("", ""), (" free", ": y"), (" free", ""), ("", "")])
+        self.assertEqual(lines[2], "0 1 | 1  0  free: y")
+        self.assertEqual(self.written("evaluate", GUARD, "00100", "11110").splitlines()[1:], [
+            "0 0 1 0  0   |  0      0     free", "1 1 1 1  0   |  1      1",
+        ])
 
     def test_a_file_of_no_row_is_not_every_row(self):
         self.assertEqual(self.written("evaluate", PAIRS, "--rows", self.file("none", "# nothing\n")), "a b c d | stop\n")
@@ -116,12 +131,12 @@ class Refusing(WithFolder):
         ):
             path = self.file("bad", content)
             for word in (("log", "-o", out), ("evaluate",)):
-                self.refused(f"yavdocsil: {path}:{place}", *word, PAIRS, "0000", "--rows", path)
-        self.refused("yavdocsil: standard input:2:1: 2 is no row", "log", PAIRS, "--rows", "-", given="0000\n2\n")
+                self.refused(f"yav: {path}:{place}", *word, PAIRS, "0000", "--rows", path)
+        self.refused("yav: standard input:2:1: 2 is no row", "log", PAIRS, "--rows", "-", given="0000\n2\n")
 
     def test_files_that_are_none(self):
-        bad = self.file("bad", b"\xff\xfe")
-        self.refused(f"yavdocsil: {bad}: it is no text\n", "log", PAIRS, "--rows", bad)
+        bad = self.file("bad", b"\xff\0\1")
+        self.refused(f"yav: {bad}: it is no text\n", "log", PAIRS, "--rows", bad)
         self.refused("none: No such file", "log", PAIRS, "--rows", self.folder / "none")
 
     def test_no_rows(self):

@@ -73,7 +73,7 @@ class Refusing(WithFolder):
     def test_what_can_not_be_written(self):
         for name in ("out.txt", "out.table", "out.pla", "out"):
             out = self.folder / name
-            self.refused(f"{out}: its ending tells no format: known are .cells, .svg, .dot, .blif, .v; ", "swap", PAIRS, "1", "-o", out)
+            self.refused(f"{out}: its ending tells no format: known are .cells, .svg, .dot, .gv, .blif, .v, .sv; ", "swap", PAIRS, "1", "-o", out)
         self.refused("--to svg: there is no file to write; -o names one", "swap", PAIRS, "1", "--to", "svg")
         nowhere = pathlib.Path("/nowhere/out.svg")
         self.refused(f"{nowhere}: No such file", "swap", PAIRS, "1", "-o", nowhere)

@@ -1,53 +1,142 @@
-"""The files that are read and written: drawings, PLAs, table files and network files, told by their endings or by name."""
+"""The files that are read and written, told by their endings or by name: tables, networks, pictures and exports."""
 
 from __future__ import annotations
 
 import pathlib
-from collections.abc import Mapping
-from typing import Optional
+from collections.abc import Callable, Mapping
+from typing import Optional, Union
 
-from .errors import Error
+from .diagram import Diagram
+from .errors import Error, Faults
+from .exports import blif, verilog
+from .library import MOST_CELLS
 from .network import Network
+from .pictures import dot, summary, svg, text
+from .reading import Content, drawing, encoding, pla, sheet
+from .reading import blif as read_blif
 from .table import Table
 
-DRAWING, PLA, TABLE, CELLS = "drawing", "pla", "table", "cells"
-ENDINGS = {".txt": DRAWING, ".drawing": DRAWING, ".pla": PLA, ".table": TABLE, ".cells": CELLS}
-FORMATS = (DRAWING, PLA, TABLE, CELLS)
+DRAWING, PLA, CSV, BLIF, TABLE, CELLS = "drawing", "pla", "csv", "blif", "table", "cells"
+SVG, DOT, TEXT, SUMMARY, VERILOG = "svg", "dot", "text", "summary", "verilog"
+
+TEXT_READERS: dict[str, Callable[[str, Optional[Faults]], Content]] = {
+    DRAWING: drawing.read, PLA: pla.read, CSV: sheet.read, BLIF: read_blif.read,
+}
+TABLE_WRITERS: dict[str, Callable[[Table], Union[str, bytes]]] = {
+    DRAWING: Table.to_drawing, PLA: Table.to_pla, CSV: Table.to_csv, TABLE: Table.to_file,
+}
+# Those of a network that have a title, or a name.
+NAMED_WRITERS: dict[str, Callable[[Diagram, str], str]] = {SVG: svg.write, DOT: dot.write, BLIF: blif.write, VERILOG: verilog.write}
+# Those that are lines of a width, for a person to read.
+LINE_WRITERS: dict[str, Callable[[Diagram, int], str]] = {TEXT: text.write, SUMMARY: summary.write}
+BINARY = (TABLE, CELLS)
+USUAL_WIDTH = 80
+
+TABLE_ENDINGS = {".txt": DRAWING, ".drawing": DRAWING, ".pla": PLA, ".csv": CSV, ".table": TABLE}
+EXPORT_ENDINGS = {".blif": BLIF, ".v": VERILOG, ".sv": VERILOG}
+DRAWN_ENDINGS = {".svg": SVG, ".dot": DOT, ".gv": DOT}
+READ_ENDINGS = {**TABLE_ENDINGS, ".blif": BLIF, ".cells": CELLS}
+PICTURE_ENDINGS = {**DRAWN_ENDINGS, ".txt": TEXT}
+NETWORK_ENDINGS = {".cells": CELLS, **DRAWN_ENDINGS, **EXPORT_ENDINGS}
+CONVERTED_ENDINGS = {**TABLE_ENDINGS, **NETWORK_ENDINGS}
+LOGGED_ENDINGS = {**TABLE_ENDINGS, ".cells": CELLS}
+# Endings that promise what nothing here writes, whatever format is named.
+FOREIGN_ENDINGS = frozenset(
+    ".png .jpg .jpeg .gif .bmp .tif .tiff .webp .pdf .ps .eps .html .htm .md .json .xml .xls .xlsx .ods .doc .docx .odt .aig .vhd .vhdl".split()
+)
 
 
 class UnknownFormat(Error):
-    """A file's ending tells no format, and none was named."""
+    """A file's ending tells no format and none was named, or the two contradict each other."""
 
 
-def format_of(path: pathlib.Path, named: Optional[str] = None, endings: Mapping[str, str] = ENDINGS) -> str:
-    """The format that is named, or else the one that a file's ending tells."""
-    if named is not None:
-        return named
-    if path.suffix not in endings:
-        known, named_ones = ", ".join(endings), ", ".join(dict.fromkeys(endings.values()))
-        raise UnknownFormat(f"its ending tells no format: known are {known}; or name one of {named_ones}")
-    return endings[path.suffix]
+def names_in(endings: Mapping[str, str]) -> tuple[str, ...]:
+    """The formats that endings tell, each once."""
+    return tuple(dict.fromkeys(endings.values()))
 
 
-def read(path: pathlib.Path, named: Optional[str] = None) -> Network:
-    """A file's table at the library; of a network file the network is held, and its table has every row cared."""
-    kind, data = format_of(path, named), path.read_bytes()
-    if kind == CELLS:
-        return Network.from_file(data)
+def told_by(path: pathlib.PurePath, endings: Mapping[str, str]) -> str:
+    """The format that a file's ending tells, in whatever case it is written."""
+    suffix = path.suffix.lower()
+    if suffix not in endings:
+        known, named = ", ".join(endings), ", ".join(names_in(endings))
+        raise UnknownFormat(f"its ending tells no format: known are {known}; or name one of {named}")
+    return endings[suffix]
+
+
+def read_as(path: pathlib.PurePath, named: Optional[str] = None) -> str:
+    """The format to read a file in: the one that is named, or else the one that its ending tells."""
+    if named is None:
+        return told_by(path, READ_ENDINGS)
+    if named not in names_in(READ_ENDINGS):
+        raise UnknownFormat(f"{named} can't be read; known are {', '.join(names_in(READ_ENDINGS))}")
+    return named
+
+
+def written_as(path: pathlib.PurePath, named: Optional[str], endings: Mapping[str, str]) -> str:
+    """The format to write a file in. One that is named has to fit the ending, if that tells any."""
+    if named is None:
+        return told_by(path, endings)
+    suffix = path.suffix.lower()
+    told = endings.get(suffix) or CONVERTED_ENDINGS.get(suffix)
+    if told not in (None, named):
+        raise UnknownFormat(f"its ending tells {told}, and {named} is asked for")
+    if suffix in FOREIGN_ENDINGS:
+        raise UnknownFormat(f"a {suffix} can't be written, and {named} is asked for")
+    return named
+
+
+# Reading.
+
+
+def table_from(data: bytes, kind: str, faults: Optional[Faults] = None) -> Table:
+    """The table that a file's bytes hold, in a format; of a network file it is what its cells compute."""
     if kind == TABLE:
-        return Network(Table.from_file(data))
-    text = data.decode("utf-8")
-    return Network(Table.from_drawing(text) if kind == DRAWING else Table.from_pla(text))
+        return Table.from_file(data)
+    if kind == CELLS:
+        return Network.from_file(data).table
+    return Table(*TEXT_READERS[kind](encoding.decoded(data), faults))
 
 
-def written(network: Network, path: pathlib.Path, named: Optional[str] = None) -> bytes:
-    """What is to be written to a file: the table, or for a network file the network, which is built where none is held."""
-    kind = format_of(path, named)
+def network_from(data: bytes, kind: str, faults: Optional[Faults] = None, board: int = MOST_CELLS) -> Network:
+    """The same at the library. Of a network file the network is held."""
+    return Network.from_file(data, board) if kind == CELLS else Network(table_from(data, kind, faults), board)
+
+
+def read_table(path: pathlib.Path, named: Optional[str] = None) -> Table:
+    """A file's table."""
+    faults = Faults()
+    table = table_from(path.read_bytes(), read_as(path, named), faults)
+    faults.warn()
+    return table
+
+
+def read(path: pathlib.Path, named: Optional[str] = None, board: int = MOST_CELLS) -> Network:
+    """A file's table at the library; of a network file the network is held, and its table has every row cared."""
+    faults = Faults()
+    network = network_from(path.read_bytes(), read_as(path, named), faults, board)
+    faults.warn()
+    return network
+
+
+# Writing.
+
+
+def written(network: Network, kind: str, name: str = "network", width: int = USUAL_WIDTH) -> bytes:
+    """What is to be written in a format: the table held, or else the network, which is built where none is held."""
+    if kind in TABLE_WRITERS:
+        return encoded(TABLE_WRITERS[kind](network.table))
     if kind == CELLS:
         if not network.is_built:
             network.build()
         return network.to_file()
-    table = network.table
-    if kind == TABLE:
-        return table.to_file()
-    return (table.to_drawing() if kind == DRAWING else table.to_pla()).encode("utf-8")
+    return encoded(drawn(network.diagram, kind, name, width))
+
+
+def drawn(diagram: Diagram, kind: str, name: str, width: int = USUAL_WIDTH) -> str:
+    """A network as a picture or an export."""
+    return LINE_WRITERS[kind](diagram, width) if kind in LINE_WRITERS else NAMED_WRITERS[kind](diagram, name)
+
+
+def encoded(content: Union[str, bytes]) -> bytes:
+    return content.encode("utf-8") if isinstance(content, str) else content

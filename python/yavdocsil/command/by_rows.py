@@ -6,11 +6,11 @@ import argparse
 from collections.abc import Sequence
 
 from .. import formats
+from ..display import centred, columns, harmless, many
 from ..network import Network
-from ..rows import bits_of
+from ..reading.rows import bits_of
 from ..table import Table
-from ..words import many
-from .files import BadWord, kind_out, write_out
+from .files import STANDARD, BadWord, kind_beside, save, tell
 from .networks import in_order
 from .options import on_board, ordered, prepared, rows_given, sifted
 from .telling import marks_of
@@ -19,29 +19,48 @@ SEEN = "seen"
 
 
 def evaluate(given: argparse.Namespace) -> None:
+    """Tells the outputs at rows, and which of them were free: there the drawing says nothing, and the filling has chosen."""
     network = prepared(given)
     lists = rows_given(given, network.inputs)
     rows = [row for each in lists for row in each] if lists else list(range(2 ** len(network.inputs)))
     if not network.is_built:
         network.build()
-    print(" ".join([*network.inputs, "|", *network.outputs]))
-    for row, outputs in zip(rows, network.evaluate(rows)):
-        print(row_line(row, network.inputs, centred(outputs, network.outputs)))
+    inputs, outputs = shown(network.inputs), shown(network.outputs)
+    free = free_of(network.table)
+    lines = [" ".join([*inputs, "|", *outputs])]
+    for row, bits in zip(rows, network.evaluate(rows)):
+        lines.append(row_line(row, inputs, [*under(bits, outputs), free.get(row, "")]))
+    tell(*lines)
 
 
-def centred(bits: Sequence[int], names: Sequence[str]) -> list[str]:
+def free_of(table: Table) -> dict[int, str]:
+    """For each row that has free marks, what is said of them."""
+    said = {}
+    for row, marks in enumerate(zip(*table.columns)):
+        names = [name for name, mark in zip(table.outputs, marks) if mark is None]
+        if names:
+            said[row] = " free" if len(names) == len(marks) else f" free: {' '.join(names)}"
+    return said
+
+
+def shown(names: Sequence[str]) -> list[str]:
+    """Names as they are told."""
+    return [harmless(name) for name in names]
+
+
+def under(bits: Sequence[int], names: Sequence[str]) -> list[str]:
     """Bits, each under its name."""
-    return [str(bit).center(len(name)) for bit, name in zip(bits, names)]
+    return [centred(str(bit), columns(name)) for bit, name in zip(bits, names)]
 
 
 def row_line(row: int, inputs: Sequence[str], said: Sequence[str]) -> str:
     """A row's bits, a bar, and what is said of it."""
-    return " ".join([*centred(bits_of(row, len(inputs)), inputs), "|", *said]).rstrip()
+    return " ".join([*under(bits_of(row, len(inputs)), inputs), "|", *said]).rstrip()
 
 
 def log(given: argparse.Namespace) -> None:
     """Logs the rows and tells what that comes to. The order is the one given; what is to be sifted is sifted under the new care."""
-    kind = kind_out(given)
+    kind = kind_beside(given, formats.LOGGED_ENDINGS)
     network = ordered(given)
     logs = rows_given(given, network.inputs)
     if not logs:
@@ -53,17 +72,18 @@ def log(given: argparse.Namespace) -> None:
     network = on_board(sifted(network, given), given)
     lines += [f"now     {state_line(network)}", *changed_lines(drawn, network.table)]
     if kind is not None:
-        write_out(formats.written(network, given.out, kind), given.out)
-    print("\n".join(lines))
+        save(network, kind, given)
+    tell(*lines, beside=given.out == STANDARD)
 
 
 def seen_lines(network: Network) -> list[str]:
     """A line for each row that was seen: how often, and whether it is cared now."""
     seen = {row: str(count) for row, count in enumerate(network.seen) if count}
     width, marks = max(map(len, [SEEN, *seen.values()])), network.table.columns[0]
-    lines = [" ".join([*network.inputs, "|", SEEN.rjust(width)])]
+    inputs = shown(network.inputs)
+    lines = [" ".join([*inputs, "|", SEEN.rjust(width)])]
     for row, count in seen.items():
-        lines.append(row_line(row, network.inputs, [count.rjust(width), "free" if marks[row] is None else "cared"]))
+        lines.append(row_line(row, inputs, [count.rjust(width), "free" if marks[row] is None else "cared"]))
     return lines
 
 

@@ -1,18 +1,22 @@
-"""Files of the command: what is read and written, and errors told with the file that they are about."""
+"""Files of the command, standard input and output among them: what is read and written, and errors told with the file that they are about."""
 
 from __future__ import annotations
 
 import argparse
 import contextlib
+import os
 import pathlib
 import sys
 from collections.abc import Iterator, Mapping
-from typing import Optional, Union
+from typing import BinaryIO, Optional
 
 from .. import formats
-from ..errors import Error, Malformed
+from ..display import harmless
+from ..errors import Error, Faults, Malformed, NotBuilt
+from ..network import Network
 
-STANDARD_INPUT = pathlib.Path("-")
+PROGRAM = "yav"
+STANDARD = pathlib.Path("-")
 
 
 class BadWord(Error):
@@ -20,53 +24,148 @@ class BadWord(Error):
 
 
 class InFile(Error):
-    """An error of a file beside the one that a command begins with."""
+    """An error, told with the file that it is about."""
+
+
+# What is told of files.
+
+
+def called(path: pathlib.Path, standard: str) -> str:
+    """A file as a person knows it; `-` is a standard stream."""
+    return f"standard {standard}" if path == STANDARD else str(path)
 
 
 @contextlib.contextmanager
-def about(path: object) -> Iterator[None]:
+def about(file: str) -> Iterator[None]:
     """What goes wrong inside is told of this file."""
     try:
         yield
-    except (Error, UnicodeDecodeError) as error:
-        raise InFile(told(error, path)) from error
+    except (BrokenPipeError, InFile, NotBuilt):
+        raise
+    except (Error, OSError, ValueError) as error:
+        raise InFile(told(error, file)) from error
 
 
-def told(error: Exception, path: object) -> str:
+def told(error: Exception, file: str) -> str:
     """An error as one line for a person, with the file and the place in it."""
-    if isinstance(error, InFile):
-        return str(error)
     if isinstance(error, Malformed):
         column = f":{error.column}" if error.column else ""
-        return f"{path}:{error.line}{column}: {error.reason}"
-    if isinstance(error, UnicodeDecodeError):
-        return f"{path}: it is no text"
-    if isinstance(error, OSError):
-        return f"{error.filename}: {error.strerror}"
-    return f"{path}: {error}"
+        return f"{file}:{error.line}{column}: {error.reason}"
+    return f"{file}: {error.strerror or error}" if isinstance(error, OSError) else f"{file}: {error}"
 
 
-def read_text(path: pathlib.Path) -> str:
-    """A file's text, or that of standard input."""
-    data = sys.stdin.buffer.read() if path == STANDARD_INPUT else path.read_bytes()
-    return data.decode("utf-8")
+def warn_of(error: object) -> None:
+    """Tells something on standard error, in one line."""
+    if sys.stderr is not None:
+        print(f"{PROGRAM}: {harmless(str(error))}", file=sys.stderr)
 
 
-def kind_out(given: argparse.Namespace, endings: Mapping[str, str] = formats.ENDINGS) -> Optional[str]:
-    """The format of the file to write; none where none is named. It is asked before the work is done."""
-    if given.out is None:
-        if given.write_as is not None:
-            raise BadWord(f"--to {given.write_as}: there is no file to write; -o names one")
-        return None
-    with about(given.out):
-        return formats.format_of(given.out, given.write_as, endings)
+# Reading.
 
 
-def write_out(content: Union[str, bytes], out: Optional[pathlib.Path]) -> None:
-    """Writes to a file, or to standard output where none is named."""
-    data = content.encode("utf-8") if isinstance(content, str) else content
-    if out is None:
-        sys.stdout.buffer.write(data)
-        sys.stdout.buffer.flush()
-    else:
-        out.write_bytes(data)
+def content_of(path: pathlib.Path) -> bytes:
+    """A file's bytes, or all that standard input has."""
+    if path != STANDARD:
+        return path.read_bytes()
+    if sys.stdin is None:
+        raise BadWord("it is closed")
+    return sys.stdin.buffer.read()
+
+
+def kind_in(given: argparse.Namespace) -> str:
+    """The format of the file to read."""
+    path, named = given.file, given.read_as
+    if path == STANDARD and named is None:
+        raise BadWord(f"it has no ending that tells its format; --from names one of {', '.join(formats.names_in(formats.READ_ENDINGS))}")
+    return formats.read_as(path, named)
+
+
+def network_in(given: argparse.Namespace, faults: Faults) -> Network:
+    """The network of the file that a command begins with; what is odd about the file is told."""
+    file = called(given.file, "input")
+    with about(file):
+        network = formats.network_from(content_of(given.file), kind_in(given), faults)
+    for note in faults.notes:
+        warn_of(f"{told(note, file)} (it is taken as it is)")
+    return network
+
+
+def name_of(given: argparse.Namespace) -> str:
+    """What a picture or an export of the file is called."""
+    return "network" if given.file == STANDARD else str(given.file.stem)
+
+
+# Writing.
+
+
+def output() -> BinaryIO:
+    """Standard output, for bytes."""
+    if sys.stdout is None:
+        raise BadWord("it is closed")
+    sys.stdout.flush()
+    return sys.stdout.buffer
+
+
+def flushed() -> None:
+    """Writes what is still to be written, so that what goes wrong with it is told."""
+    if sys.stdout is not None:
+        with about("standard output"):
+            sys.stdout.flush()
+
+
+def let_go() -> None:
+    """Gives up what can't be written any more, so that nothing is said of it when the program ends."""
+    try:
+        if sys.stdout is not None:
+            sys.stdout.flush()
+    except OSError:
+        os.dup2(os.open(os.devnull, os.O_WRONLY), sys.stdout.fileno())
+
+
+def tell(*lines: str, beside: bool = False) -> None:
+    """Tells lines to a person, on standard output, or on standard error where a file is written there."""
+    stream = sys.stderr if beside else sys.stdout
+    if stream is None:
+        raise InFile(f"standard {'error' if beside else 'output'}: it is closed")
+    with about("standard output"):
+        print(*map(harmless, lines), sep="\n", file=stream)
+
+
+def kind_out(given: argparse.Namespace, endings: Mapping[str, str], usual: Optional[str] = None) -> str:
+    """The format to write, by the file's name or an option's. It is asked before the work is done."""
+    out = given.out or STANDARD
+    with about(called(out, "output")):
+        if out != STANDARD:
+            return formats.written_as(out, given.write_as, endings)
+        kind: Optional[str] = given.write_as or usual
+        if kind is None:
+            raise BadWord(f"it has no ending that tells a format; --to names one of {', '.join(formats.names_in(endings))}")
+        return kind
+
+
+def kind_beside(given: argparse.Namespace, endings: Mapping[str, str]) -> Optional[str]:
+    """The same of a file that is written beside what is told; none where no file is to be written."""
+    if given.out is not None:
+        return kind_out(given, endings)
+    if given.write_as is not None:
+        raise BadWord(f"--to {given.write_as}: there is no file to write; -o names one")
+    return None
+
+
+def write_out(data: bytes, kind: str, out: Optional[pathlib.Path]) -> None:
+    """Writes to a file, or to standard output where none is named or it is `-`."""
+    with about(called(out or STANDARD, "output")):
+        if out is not None and out != STANDARD:
+            out.write_bytes(data)
+            return
+        stream = output()
+        if kind in formats.BINARY and stream.isatty():
+            raise BadWord("it is a terminal, and this is no text; name a file, or write it on into one")
+        stream.write(data)
+        stream.flush()
+
+
+def save(network: Network, kind: str, given: argparse.Namespace) -> None:
+    """Writes a table or a network in a format, to the file that is named."""
+    with about(called(given.out or STANDARD, "output")):
+        write_out(formats.written(network, kind, name_of(given)), kind, given.out)

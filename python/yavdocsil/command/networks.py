@@ -3,48 +3,68 @@
 from __future__ import annotations
 
 import argparse
-from collections.abc import Callable
-from typing import Union
+import re
+import shutil
 
-from .. import blif, dot, formats, svg, text, verilog
+from .. import formats
+from ..diagram import Diagram
+from ..display import many
 from ..errors import Refused
 from ..network import Network
-from ..words import many
-from .files import BadWord, kind_out, write_out
+from ..pictures import MOST_READABLE
+from .files import STANDARD, BadWord, kind_beside, kind_out, name_of, save, tell, warn_of, write_out
 from .options import prepared
 
-PICTURES: dict[str, Callable[..., str]] = {"svg": svg.write, "dot": dot.write, "text": text.write}
-EXPORTS: dict[str, Callable[..., str]] = {"blif": blif.write, "verilog": verilog.write}
-# What the endings tell where a network is written and no table.
-ENDINGS = {".cells": formats.CELLS, ".svg": "svg", ".dot": "dot", ".blif": "blif", ".v": "verilog"}
+PICTURES = (formats.SVG, formats.DOT, formats.TEXT, formats.SUMMARY)
+EXPORTS = (formats.BLIF, formats.VERILOG)
 
 
 def convert(given: argparse.Namespace) -> None:
-    kind = kind_out(given)
-    write_out(formats.written(prepared(given), given.out, kind), given.out)
-
-
-def show(given: argparse.Namespace) -> None:
-    write_out(network_as(given.picture, prepared(given), given.file.stem), given.out)
+    kind = kind_out(given, formats.CONVERTED_ENDINGS)
+    save(prepared(given), kind, given)
 
 
 def export(given: argparse.Namespace) -> None:
-    write_out(network_as(given.language, prepared(given), given.file.stem), given.out)
+    kind = kind_out(given, formats.EXPORT_ENDINGS)
+    save(prepared(given), kind, given)
 
 
-def network_as(kind: str, network: Network, name: str) -> Union[str, bytes]:
-    """The network as a picture, an export or a network file."""
-    diagram = network.diagram
-    if kind == formats.CELLS:
-        return network.to_file()
-    if kind == "text":
-        return text.write(diagram)
-    return (PICTURES.get(kind) or EXPORTS[kind])(diagram, name)
+def show(given: argparse.Namespace) -> None:
+    """Draws the network, or what some outputs need of it. Lines for a person go as wide as the terminal is."""
+    kind = kind_out(given, formats.PICTURE_ENDINGS, formats.TEXT)
+    diagram = prepared(given).diagram
+    if given.shown:
+        diagram = diagram.only(given.shown)
+    on_terminal = given.out in (None, STANDARD)
+    width = shutil.get_terminal_size().columns if on_terminal else formats.USUAL_WIDTH
+    picture = formats.drawn(diagram, kind, name_of(given), width)
+    if on_terminal and kind in formats.LINE_WRITERS:
+        tell(*picture.splitlines())
+    else:
+        write_out(formats.encoded(picture), kind, given.out)
+    if kind not in formats.LINE_WRITERS:
+        warn_of_size(diagram, picture)
+
+
+def warn_of_size(diagram: Diagram, picture: str) -> None:
+    """Says of a picture that can't be read that it can't, and what can."""
+    if len(diagram.cells) > MOST_READABLE:
+        width = re.match(r'<svg [^>]*\bwidth="([0-9.]+)"', picture)
+        pixels = f", {float(width[1]):,.0f} pixels wide," if width else ""
+        warn_of(
+            f"a picture of {len(diagram.cells):,} cells{pixels} is hard to read: --output NAME draws one output alone, "
+            "--summary counts the cells of each place"
+        )
+
+
+def put_text(text: str) -> None:
+    """Writes a text to standard output, as it stands."""
+    write_out(formats.encoded(text), formats.TEXT, None)
 
 
 def swap(given: argparse.Namespace) -> None:
     """Exchanges neighbours in the cells held, one pair after the other, and tells what it comes to each time."""
-    kind = kind_out(given, ENDINGS)
+    kind = kind_beside(given, formats.NETWORK_ENDINGS)
     network = prepared(given)
     lines = [cells_held(network)]
     for word in given.places:
@@ -54,8 +74,8 @@ def swap(given: argparse.Namespace) -> None:
     if fresh.diagram != network.diagram:
         lines.append(f"built afresh in that order, the table gives other cells, {len(fresh.cells)} of them")
     if kind is not None:
-        write_out(network_as(kind, network, given.file.stem), given.out)
-    print("\n".join(lines))
+        save(network, kind, given)
+    tell(*lines, beside=given.out == STANDARD)
 
 
 def cells_held(network: Network) -> str:
@@ -64,7 +84,11 @@ def cells_held(network: Network) -> str:
 
 def in_order(cells: int, network: Network) -> str:
     """So many cells, and the order that takes them."""
-    return " ".join([many(cells, "cell"), "in the order", *(network.inputs[number] for number in network.order)])
+    return f"{many(cells, 'cell')} {order_told(network)}"
+
+
+def order_told(network: Network) -> str:
+    return " ".join(["in the order", *(network.inputs[number] for number in network.order)])
 
 
 def swap_at(word: str, network: Network) -> None:

@@ -3,26 +3,37 @@
 from __future__ import annotations
 
 import argparse
+import contextlib
 import pathlib
 import sys
-from collections.abc import Callable, Iterable, Sequence
+from collections.abc import Callable, Iterable, Iterator, Mapping, Sequence
 from typing import Optional
 
-from .. import formats, rows
+from .. import formats
+from ..errors import Faults
 from ..library import MOST_BOARD
 from ..network import NO_LIMIT, Network
-from .files import STANDARD_INPUT, BadWord, about, read_text
+from ..reading import encoding, rows
+from .files import STANDARD, BadWord, InFile, about, called, content_of, network_in, warn_of
 
 # A pass of fewer inputs is over before a line could be read.
 LONG_PASS = 8
+# How far to sift: a pass under a limit of orders, or passes until one brings nothing.
+TO_REST = -1
+
+Progress = Callable[[int, int], None]
 
 
 # The options.
 
 
 def with_file(parser: argparse.ArgumentParser) -> None:
-    parser.add_argument("file", metavar="FILE", type=pathlib.Path, help="a drawing, a PLA, a table file or a network file")
-    parser.add_argument("--from", dest="read_as", choices=formats.FORMATS, help="the file's format, if its ending doesn't tell")
+    parser.add_argument(
+        "file", metavar="FILE", type=pathlib.Path, help="a drawing, PLA, CSV, BLIF, table file or network file; - for standard input",
+    )
+    parser.add_argument(
+        "--from", dest="read_as", choices=formats.names_in(formats.READ_ENDINGS), help="the file's format, if its ending doesn't tell",
+    )
 
 
 def with_order(parser: argparse.ArgumentParser) -> None:
@@ -34,7 +45,10 @@ def with_order(parser: argparse.ArgumentParser) -> None:
     )
     sifted = parser.add_mutually_exclusive_group()
     sifted.add_argument("--sift", dest="limit", action="store_const", const=NO_LIMIT, help="sift each input once, after --sift-input")
-    sifted.add_argument("--pass", dest="limit", metavar="LIMIT", type=number_to(NO_LIMIT), help="the same, under a limit of orders tried")
+    sifted.add_argument(
+        "--sift-to-rest", dest="limit", action="store_const", const=TO_REST, help="the same, again and again until it brings nothing",
+    )
+    sifted.add_argument("--pass", dest="limit", metavar="LIMIT", type=number_to(NO_LIMIT), help="once, under a limit of orders tried")
 
 
 def with_board(parser: argparse.ArgumentParser) -> None:
@@ -48,15 +62,24 @@ def with_rows(parser: argparse.ArgumentParser, without: str) -> None:
     parser.add_argument("rows", metavar="ROW", nargs="*", help=f"a row's bits, input 0 first; {without}")
     parser.add_argument(
         "--rows", dest="files", metavar="FILE", type=pathlib.Path, action="append", default=[],
-        help="a file with a row a line, `-` for standard input; several are taken one after the other",
+        help="a file with a row a line, - for standard input; several are taken one after the other",
     )
 
 
-def with_out(parser: argparse.ArgumentParser, otherwise: str, kinds: Iterable[str] = ()) -> None:
-    """The file to write, and where its ending tells a format, the option that names one."""
-    parser.add_argument("-o", dest="out", metavar="OUT", type=pathlib.Path, help=f"the file to write; {otherwise}")
-    if kinds:
-        parser.add_argument("--to", dest="write_as", choices=tuple(kinds), help="the format to write, if its ending doesn't tell")
+def with_out(parser: argparse.ArgumentParser, otherwise: str) -> None:
+    parser.add_argument(
+        "-o", dest="out", metavar="OUT", type=pathlib.Path,
+        help=f"the file to write, its format by the ending, - for standard output; {otherwise}",
+    )
+
+
+def with_format(parser: argparse.ArgumentParser, endings: Mapping[str, str], flags: Iterable[str] = ()) -> None:
+    """The option that names a format to write, and for some formats one of its own."""
+    group = parser.add_mutually_exclusive_group()
+    names = dict.fromkeys([*flags, *formats.names_in(endings)])
+    for name in flags:
+        group.add_argument(f"--{name}", dest="write_as", action="store_const", const=name, help=f"the same as --to {name}")
+    group.add_argument("--to", dest="write_as", choices=tuple(names), help="the format to write, if no ending tells")
 
 
 def number_to(most: int) -> Callable[[str], int]:
@@ -78,9 +101,9 @@ def prepared(given: argparse.Namespace) -> Network:
     return on_board(sifted(ordered(given), given), given)
 
 
-def ordered(given: argparse.Namespace) -> Network:
+def ordered(given: argparse.Namespace, faults: Optional[Faults] = None) -> Network:
     """The file's network, in the order given."""
-    network = formats.read(given.file, given.read_as)
+    network = network_in(given, faults or Faults())
     if given.order is not None:
         network.reorder(order_of(given.order, network.inputs))
     return network
@@ -102,26 +125,31 @@ def order_of(text: str, inputs: Sequence[str]) -> list[str]:
 
 
 def sifted(network: Network, given: argparse.Namespace) -> Network:
-    """The network sifted as far as asked: the inputs that are named, then a pass."""
+    """The network sifted as far as asked: the inputs that are named, then a pass, or passes to rest."""
     for name in given.inputs:
         network.sift(name)
     if given.limit is not None:
-        told = progress_of(len(network.inputs)) if sys.stderr.isatty() else None
-        network.sift_all(given.limit, told)
-        if told is not None:
-            print(file=sys.stderr)
+        with progress_of(network) as progress:
+            if given.limit == TO_REST:
+                passes = network.sift_to_rest(progress)
+            else:
+                network.sift_all(given.limit, progress)
+    if given.limit == TO_REST:
+        warn_of(f"sifted to rest in {len(passes)} pass{'' if len(passes) == 1 else 'es'}: {', '.join(map(str, passes))} cells")
     return network
 
 
-def progress_of(n: int) -> Optional[Callable[[int, int], None]]:
+@contextlib.contextmanager
+def progress_of(network: Network) -> Iterator[Optional[Progress]]:
     """Tells, on one line of a terminal, how far a long pass is."""
-    if n < LONG_PASS:
-        return None
-
-    def told(turn: int, cells: int) -> None:
-        print(f"\rsifted {turn} of {n} inputs, {cells} cells ", end="", file=sys.stderr, flush=True)
-
-    return told
+    n = len(network.inputs)
+    if n < LONG_PASS or sys.stderr is None or not sys.stderr.isatty():
+        yield None
+        return
+    try:
+        yield lambda turn, cells: print(f"\rsifted {turn} of {n} inputs, {cells} cells ", end="", file=sys.stderr, flush=True)
+    finally:
+        print(file=sys.stderr)
 
 
 def on_board(network: Network, given: argparse.Namespace) -> Network:
@@ -132,7 +160,9 @@ def on_board(network: Network, given: argparse.Namespace) -> Network:
 def rows_given(given: argparse.Namespace, inputs: Sequence[str]) -> list[list[int]]:
     """A list of rows for the command line, if some stand there, and one for each file."""
     lists = [[rows.row_of(word, inputs) for word in given.rows]] if given.rows else []
+    if [given.file, *given.files].count(STANDARD) > 1:
+        raise InFile("standard input: it can be read only once, and - names it twice")
     for path in given.files:
-        with about("standard input" if path == STANDARD_INPUT else path):
-            lists.append(rows.read(read_text(path), inputs))
+        with about(called(path, "input")):
+            lists.append(rows.read(encoding.decoded(content_of(path)), inputs))
     return lists

@@ -4,17 +4,19 @@ from __future__ import annotations
 
 import argparse
 import pathlib
-from collections.abc import Callable, Iterable
+from collections.abc import Callable
 from typing import Any, Optional
 
-from .. import formats
+from .. import __version__, formats
 from ..network import NO_LIMIT
-from . import by_rows, networks, telling
-from .options import number_to, with_board, with_file, with_order, with_out, with_rows
+from . import by_rows, checking, completion, networks, telling
+from .files import PROGRAM
+from .options import number_to, with_board, with_file, with_format, with_order, with_out, with_rows
 
-
+# Does what a word says, and answers the exit status if it isn't 0.
+Does = Callable[[argparse.Namespace], Optional[int]]
 # Adds a word with what it does, and what is said of it.
-Word = Callable[[str, Callable[[argparse.Namespace], None], str], argparse.ArgumentParser]
+Word = Callable[[str, Does, str], argparse.ArgumentParser]
 
 
 class Intermixed(argparse.ArgumentParser):
@@ -33,65 +35,63 @@ class Intermixed(argparse.ArgumentParser):
 
 
 def parser() -> argparse.ArgumentParser:
-    whole = argparse.ArgumentParser(prog="yavdocsil", description="Smallest selector networks of truth tables with don't-cares.")
-    words = whole.add_subparsers(dest="word", required=True, parser_class=Intermixed)
+    whole = argparse.ArgumentParser(prog=PROGRAM, description="Smallest selector networks of truth tables with don't-cares.")
+    whole.add_argument("--version", action="version", version=f"{PROGRAM} {__version__}")
+    words = whole.add_subparsers(dest="word", required=True, metavar="WORD", parser_class=Intermixed)
 
-    def word(name: str, does: Callable[[argparse.Namespace], None], about: str) -> argparse.ArgumentParser:
+    def word(name: str, does: Does, about: str) -> argparse.ArgumentParser:
         made = words.add_parser(name, help=about, description=f"{about[0].upper()}{about[1:]}.")
         made.set_defaults(does=does)
         with_file(made)
         with_order(made)
+        with_board(made)
         return made
 
     of_tables(word)
     of_networks(word)
     of_rows(word)
+    made = words.add_parser("completion", help="write what makes a shell complete this command", description="Write a shell's completions.")
+    made.add_argument("shell", metavar="SHELL", choices=completion.SHELLS, help=f"one of {', '.join(completion.SHELLS)}")
+    made.set_defaults(does=lambda given: networks.put_text(completion.script(given.shell, parser(), PROGRAM)), file=pathlib.Path(PROGRAM))
     return whole
 
 
 def of_tables(word: Word) -> None:
-    made = word("convert", networks.convert, "write a table in another format, or its network as a network file")
-    made.add_argument("out", metavar="OUT", type=pathlib.Path, help="the file to write; its ending tells the format")
-    made.add_argument("--to", dest="write_as", choices=formats.FORMATS, help="the format to write, if the ending doesn't tell")
-    with_board(made)
-    with_board(word("info", telling.info, "tell the inputs, the outputs, the order, the care and the cells"))
-    with_board(word("order", telling.order, "tell the order of the places and the cells it takes"))
+    made = word("convert", networks.convert, "write a table in another format, or its network as a file, a picture or an export")
+    made.add_argument("out", metavar="OUT", type=pathlib.Path, help="the file to write, its format by the ending; - for standard output")
+    with_format(made, formats.CONVERTED_ENDINGS)
+    word("check", checking.check, "tell every error of a file, or what its table and its network come to")
+    word("info", telling.info, "tell the inputs, the outputs, the order, the care and the cells")
+    word("order", telling.order, "tell the order of the places and the cells it takes")
     word("moves", telling.moves, "tell what moving each input to each place would bring")
 
 
 def of_networks(word: Word) -> None:
     made = word("show", networks.show, "draw the network")
-    one_of(made, "picture", networks.PICTURES, "text")
-    with_board(made)
-    with_out(made, "else standard output")
+    with_format(made, formats.PICTURE_ENDINGS, networks.PICTURES)
+    made.add_argument(
+        "--output", dest="shown", metavar="NAME", action="append", default=[], help="draw what this output needs alone; several are drawn together",
+    )
+    with_out(made, "that too without one")
     made = word("export", networks.export, "write the network for other tools")
-    one_of(made, "language", networks.EXPORTS, None)
-    with_board(made)
-    with_out(made, "else standard output")
+    with_format(made, formats.EXPORT_ENDINGS, networks.EXPORTS)
+    with_out(made, "that too without one")
     made = word("swap", networks.swap, "exchange neighbouring places in the network's cells, with no build")
     made.add_argument(
         "places", metavar="PLACE", nargs="+",
         help="the upper place's number, 0 for the top one, or both inputs as a,b; several are exchanged in the sequence given",
     )
-    with_board(made)
-    with_out(made, "its ending tells whether the network file, a picture or an export", dict.fromkeys(networks.ENDINGS.values()))
+    with_format(made, formats.NETWORK_ENDINGS)
+    with_out(made, "without one, none is written")
 
 
 def of_rows(word: Word) -> None:
     made = word("evaluate", by_rows.evaluate, "tell the outputs at rows")
     with_rows(made, "without any, every row")
-    with_board(made)
     made = word("log", by_rows.log, "care for the rows that were seen often enough, and for no others")
     with_rows(made, "as often as it was seen")
     made.add_argument(
         "--least", metavar="R", type=number_to(NO_LIMIT), default=1, help="how often is enough, 1 if not said; with 0 every row is cared",
     )
-    with_board(made)
-    with_out(made, "the table under that care, or its network, by the ending", formats.FORMATS)
-
-
-def one_of(made: argparse.ArgumentParser, name: str, choices: Iterable[str], default: Optional[str]) -> None:
-    group = made.add_mutually_exclusive_group(required=default is None)
-    for choice in choices:
-        group.add_argument(f"--{choice}", dest=name, action="store_const", const=choice)
-    made.set_defaults(**{name: default})
+    with_format(made, formats.LOGGED_ENDINGS)
+    with_out(made, "without one, none is written")
