@@ -14,7 +14,7 @@ static uint16_t roots[YAV_ROOTS], cells[3 * YAV_MOST_CELLS];
 static uint32_t value_of(const char *call, uint64_t answer)
 {
     if (yav_number(answer) != YAV_DONE) {
-        fprintf(stderr, "%s refused: %u\n", call, yav_number(answer));
+        fprintf(stderr, "%s refused %u: %s\n", call, (unsigned)yav_number(answer), yav_message(yav_number(answer)));
         exit(1);
     }
     return yav_value(answer);

@@ -61,6 +61,40 @@ enum {
 static inline uint32_t yav_number(uint64_t answer) { return (uint32_t)(answer >> 32); }
 static inline uint32_t yav_value(uint64_t answer) { return (uint32_t)answer; }
 
+/* A number's words, in English, without a full stop; those of a number that isn't above are 'for a reason unknown here'.
+ *
+ *     if (yav_number(answer) != YAV_DONE)
+ *         fprintf(stderr, "refused %u: %s\n", (unsigned)yav_number(answer), yav_message(yav_number(answer)));
+ */
+static inline const char *yav_message(uint32_t number)
+{
+    static const struct { uint32_t number; const char *words; } messages[] = {
+        { YAV_DONE, "done" },
+        { YAV_BAD_LENGTH, "the file is empty, not of whole blocks, or not of as many as its heading asks for" },
+        { YAV_BAD_CHECK, "a block's check differs" },
+        { YAV_BAD_KIND, "a block's kind, its second byte or its number is wrong" },
+        { YAV_BAD_INPUTS, "there are more than 10 inputs" },
+        { YAV_BAD_OUTPUTS, "there is no output, or more than 16" },
+        { YAV_BAD_ORDER, "the order doesn't have each input once" },
+        { YAV_BAD_CONTENT, "unused content is not zero" },
+        { YAV_NO_ROW, "there is no such row" },
+        { YAV_NO_SUCH, "there is no such input, or no two places to swap there" },
+        { YAV_SHORT_BUFFER, "a buffer is too short" },
+        { YAV_NO_TABLE, "no table is held" },
+        { YAV_NO_NETWORK, "no network is held" },
+        { YAV_TOO_SMALL, "the board has too few cells" },
+        { YAV_BAD_CELLS, "the cells and roots are no diagram" },
+        { YAV_SHORT_ANSWERS, "there are fewer answers than rows" },
+        { YAV_NOT_CANONICAL, "the cells and roots are not what a build leaves" },
+        { YAV_TOO_MANY_RECORDS, "there are more records than 32 bits count" },
+        { YAV_SHORT_GAINS, "the report needs more entries" }
+    };
+    for (size_t i = 0; i < sizeof messages / sizeof messages[0]; i++)
+        if (messages[i].number == number)
+            return messages[i].words;
+    return "for a reason unknown here";
+}
+
 /* Reads a table file into values and care. Numbers 10, and 1 to 7. */
 uint64_t yav_load(uint64_t *state, size_t state_words, const uint8_t *file, size_t file_bytes,
                   uint8_t *values, size_t values_bytes, uint8_t *care, size_t care_bytes);
