@@ -4,7 +4,8 @@
  * What is too short, wrong or out of place is answered with a number, and nothing but what is said here is written:
  * a refusal leaves the state and every buffer as they were, except that YAV_TOO_SMALL and YAV_NOT_CANONICAL leave the work buffer zero.
  *
- * No call keeps anything between calls: a table is its state and its buffers, and each thread can have its own. */
+ * No call keeps anything between calls: a table is its state and its buffers, and each thread can have its own. None allocates memory; on
+ * the stack yav_swap_cells takes up to 128 KiB, yav_read_cells and yav_write_cells up to 96, all others up to 16 (measured on x86-64). */
 #ifndef YAVDOCSIL_H
 #define YAVDOCSIL_H
 

@@ -59,7 +59,7 @@ def printed(*command, **others):
 
 def shown_in_readme(command):
     """The indented lines below a command in README."""
-    lines = (ROOT / "README.md").read_text().splitlines()
+    lines = (ROOT / "README.md").read_text(encoding="utf-8").splitlines()
     start = lines.index(f"    $ {command}") + 1
     shown = []
     for line in lines[start:]:
@@ -177,9 +177,12 @@ class Programs(WithFolder):
 
     def test_run_misused(self):
         usage = "usage: ./run FILE, where FILE is a table file, as examples/xor.table\n"
-        for words in ((), (TABLE, TABLE), ("examples",), ("nothing.table",)):
+        for words in ((), (TABLE, TABLE)):
             run = ran("./run", *words)
             self.assertEqual((run.returncode, run.stdout, run.stderr), (2, "", usage))
+        for file, why in (("examples", "Is a directory"), ("nothing.table", "No such file")):
+            run = ran("./run", file)
+            self.assertEqual((run.returncode, run.stdout, run.stderr), (1, "", f"./run: {file}: {why}\n"))
 
 
 class Names(unittest.TestCase):
@@ -193,7 +196,7 @@ class Names(unittest.TestCase):
 
 class Header(WithFolder):
     def test_it_declares_what_the_library_exports(self):
-        declared = re.findall(r"^uint64_t (\w+)\(", HEADER.read_text(), re.MULTILINE)
+        declared = re.findall(r"^uint64_t (\w+)\(", HEADER.read_text(encoding="utf-8"), re.MULTILINE)
         exported = re.findall(r" T (\w+)", printed("nm", "-D", "--defined-only", str(SHARED)))
         self.assertEqual(sorted(declared), sorted(name for name in exported if name.startswith("yav_")))
         self.assertEqual(sorted(declared), sorted(f"yav_{name}" for name in library.CALLS))
@@ -212,7 +215,7 @@ class Header(WithFolder):
             self.assertEqual(printed(program).splitlines(), wanted)
 
     def test_every_number_has_words(self):
-        text = HEADER.read_text()
+        text = HEADER.read_text(encoding="utf-8")
         numbers = re.findall(r"^    (YAV_\w+) = \d+", text.split("/* The number of an answer. */")[1].split("};")[0], re.MULTILINE)
         self.assertEqual(re.findall(r"\{ (YAV_\w+), \"", text), numbers)
 

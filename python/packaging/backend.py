@@ -37,11 +37,6 @@ def build_wheel(wheel_directory: str, config_settings: Any = None, metadata_dire
     return write(pathlib.Path(wheel_directory), {**package_files(), **library})
 
 
-def build_editable(wheel_directory: str, config_settings: Any = None, metadata_directory: Optional[str] = None) -> str:
-    """A wheel that leads to the checkout, whose package and library are used as they are then."""
-    return write(pathlib.Path(wheel_directory), {"yavdocsil.pth": f"{ROOT / 'python'}\n".encode("utf-8")})
-
-
 def build_sdist(sdist_directory: str, config_settings: Any = None) -> NoReturn:
     raise UnsupportedOperation("the library is proved and built by ./build, from the whole checkout; there is only a wheel")
 

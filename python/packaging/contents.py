@@ -6,6 +6,7 @@ import pathlib
 
 from version import PACKAGE, ROOT
 from yavdocsil.command.completion import script
+from yavdocsil.command.files import PROGRAM
 from yavdocsil.command.parser import parser
 
 LIBRARIES = ROOT / "target" / "lib"
@@ -35,5 +36,5 @@ def package_files() -> dict[str, bytes]:
 def shared_files() -> dict[str, bytes]:
     """The man page and the completions, by their names under a prefix."""
     files = {"share/man/man1/yav.1": (ROOT / "docs" / "yav.1").read_bytes()}
-    files.update({name: script(shell, parser()).encode("utf-8") for shell, name in COMPLETIONS.items()})
+    files.update({name: script(shell, parser(), PROGRAM).encode("utf-8") for shell, name in COMPLETIONS.items()})
     return files
