@@ -16,6 +16,8 @@ sys.path.insert(0, str(ROOT / "python"))
 from yavdocsil.command import main
 
 EXAMPLES = ROOT / "examples"
+# The environment of a person: nothing in it that says how Python writes, and a terminal of 80 columns.
+PLAIN = {**{name: value for name, value in os.environ.items() if not name.startswith("PYTHON")}, "COLUMNS": "80"}
 GUARD = "examples/bounce-guard.txt"
 PAIRS = "examples/and-or.txt"
 CROSSED = "examples/and-or-crossed.txt"
@@ -24,9 +26,7 @@ CROSSED = "examples/and-or-crossed.txt"
 def yav(*words, given="", **environment):
     """The command in the checkout, with what is given on standard input, and in the environment."""
     command = [str(ROOT / "yav"), *map(str, words)]
-    return subprocess.run(
-        command, cwd=ROOT, capture_output=True, encoding="utf-8", input=given, env={**os.environ, "COLUMNS": "80", **environment},
-    )
+    return subprocess.run(command, cwd=ROOT, capture_output=True, encoding="utf-8", input=given, env={**PLAIN, **environment})
 
 
 def called(*words, given=""):
@@ -35,10 +35,9 @@ def called(*words, given=""):
     before = os.getcwd()
     os.chdir(ROOT)
     try:
-        with unittest.mock.patch("sys.stdin", stdin), contextlib.redirect_stdout(stdout), contextlib.redirect_stderr(stderr):
+        with unittest.mock.patch("sys.stdin", stdin), unittest.mock.patch.dict(os.environ, {"COLUMNS": "80"}), \
+                contextlib.redirect_stdout(stdout), contextlib.redirect_stderr(stderr):
             status = main([str(word) for word in words])
-    except SystemExit as ended:
-        status = ended.code
     finally:
         os.chdir(before)
     texts = []

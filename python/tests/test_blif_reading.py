@@ -347,8 +347,8 @@ class Errors(unittest.TestCase):
     def test_not_driven(self) -> None:
         self.check(model(".names a g f\n11 1"), 4, 10, "nothing drives g, and it is no input")
         self.check(model("", outputs="a  f"), 3, 13, "nothing drives f, and it is no input")
-        self.check(model(".names a g\n1 1\n.names g f\n1 1\n.exdc\n.names g f\n1 1"), 9, 8, "nothing drives g, and it is no input")
-        self.check(model(".names f\n.exdc\n.outputs f"), 6, 10, "nothing drives f, and it is no input")
+        behind = model(".names a g\n1 1\n.names g f\n1 1\n.exdc\n.names g f\n1 1")
+        self.check(behind, 9, 8, "nothing drives g behind .exdc, and it is no input")
 
     def test_cycles(self) -> None:
         self.check(model(".names f f\n1 1"), 4, 10, "a cycle of 1 signal: f reads f")
@@ -411,14 +411,23 @@ class All(unittest.TestCase):
             "# places c\n.inputs a b\n.outputs f g\n.latch a q\n.names q b f\n1 1\n11 1\n"
             ".names f f\n1 1\n.names h i\n1 1\n.names i h\n1 1\n.end\n1\n",
             "line 1, column 10: there is no input c",
-            "line 3, column 12: nothing drives g, and it is no input",
             "line 4, column 1: .latch is not taken here: a latch holds a state, and a table has none",
-            "line 5, column 8: nothing drives q, and it is no input",
             "line 6, column 1: the marks of a cube are 2 for the inputs and 1 for the output, with a blank between",
             "line 8, column 10: f is driven twice, in lines 5 and 8",
             "line 10, column 10: a cycle of 2 signals: i reads h reads i",
             "line 15, column 1: text after the end",
         )
+
+    def test_what_a_directive_that_is_not_taken_brings_with_it(self) -> None:
+        """Its cubes, and signals that it may have driven, are no errors beside it."""
+        taken = "is not taken here: what is read is one combinational model of .names"
+        self.check(model(".name a b f\n11 1\n10 1"), f"line 4, column 1: .name {taken}")
+        twice = "line 7, column 10: f is driven twice, in lines 4 and 7"
+        self.check(model(".names a f\n.attr x\n1 1\n.names b f\n1 1"), f"line 5, column 1: .attr {taken}", twice)
+
+    def test_too_many_inputs_and_a_line_of_none(self) -> None:
+        text = ".inputs " + " ".join(f"i{k}" for k in range(11)) + "\n.inputs\n.outputs i0\n.end\n"
+        self.check(text, "line 1, column 39: there are more than 10 inputs")
 
     def test_a_signal_that_nothing_drives_is_told_once(self) -> None:
         self.check(model(".names g f\n1 1\n.names g h\n1 1"), "line 4, column 8: nothing drives g, and it is no input")

@@ -8,7 +8,7 @@ from yavdocsil import Table
 
 
 class Errors(WithFolder):
-    def wrong(self, content, *places, name="bad.txt", first="", last=""):
+    def wrong(self, content, *places, name="bad.txt", first=""):
         """Each error on a line of its own, in sequence, then how many there are."""
         path = self.file(name, content)
         run = self.run_by("check", path)
@@ -52,8 +52,12 @@ class Errors(WithFolder):
         self.refused("refused 1: ", "check", self.file("bad.table", b"\1" * 100))
 
     def test_what_is_taken_is_told(self):
+        note = "the number of cubes is 1, not 3 (it is taken as it is)\n"
         path = self.file("odd.pla", ".i 1\n.o 1\n.p 3\n1 1\n.e\n")
-        self.assertIn("cells   1 in the order x0\n", self.written("check", path, beside=f"yav: {path}:3:4: the number of cubes is 1, not 3 (it is taken as it is)\n"))
+        self.assertIn("cells   1 in the order x0\n", self.written("check", path, beside=f"yav: {path}:3:4: {note}"))
+        path = self.file("wrong.pla", ".i 1\n.o 1\n.p 3\nx 1\n.e\n")
+        wrong = f"yav: {path}:4:1: x is not a mark of a cube\n"
+        self.assertEqual(self.run_by("check", path).stderr, f"yav: {path}:3:4: {note}{wrong}")
 
 
 class Told(WithFolder):

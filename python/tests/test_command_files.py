@@ -8,11 +8,11 @@ import subprocess
 import termios
 import unittest
 
-from running import EXAMPLES, GUARD, PAIRS, ROOT, WithFolder, yav
+from running import EXAMPLES, GUARD, PAIRS, PLAIN, ROOT, WithFolder, yav
 
 from yavdocsil import Table
 
-XOR = (EXAMPLES / "xor.txt").read_text()
+XOR = (EXAMPLES / "xor.txt").read_text(encoding="utf-8")
 READ = "drawing, pla, csv, table, blif, cells"
 
 
@@ -21,23 +21,25 @@ class Endings(WithFolder):
         for ending, option in ((".svg", "--svg"), (".dot", "--dot"), (".gv", "--dot"), (".txt", "--text"), (".SVG", "--svg")):
             out = self.folder / f"guard{ending}"
             self.assertEqual(self.written("show", GUARD, "-o", out), "")
-            self.assertEqual(out.read_text(), self.written("show", GUARD, option), ending)
+            self.assertEqual(out.read_text(encoding="utf-8"), self.written("show", GUARD, option), ending)
             self.written("show", GUARD, option, "-o", out)
 
     def test_an_export_goes_by_its_ending(self):
         for ending, option in ((".blif", "--blif"), (".v", "--verilog"), (".sv", "--verilog"), (".V", "--verilog")):
             out = self.folder / f"guard{ending}"
             self.assertEqual(self.written("export", GUARD, "-o", out), "")
-            self.assertEqual(out.read_text(), self.written("export", GUARD, option), ending)
+            self.assertEqual(out.read_text(encoding="utf-8"), self.written("export", GUARD, option), ending)
 
     def test_convert_writes_every_format(self):
-        for ending, words in ((".svg", ("show", "--svg")), (".dot", ("show", "--dot")), (".blif", ("export", "--blif")), (".v", ("export", "--verilog"))):
+        for ending, word, option in (
+            (".svg", "show", "--svg"), (".dot", "show", "--dot"), (".blif", "export", "--blif"), (".v", "export", "--verilog"),
+        ):
             out = self.folder / f"out{ending}"
             self.written("convert", GUARD, out)
-            self.assertEqual(out.read_text(), self.written(words[0], GUARD, *words[1:]))
+            self.assertEqual(out.read_text(encoding="utf-8"), self.written(word, GUARD, option))
 
     def test_endings_in_any_case(self):
-        path = self.file("GUARD.TXT", (ROOT / GUARD).read_text())
+        path = self.file("GUARD.TXT", (ROOT / GUARD).read_text(encoding="utf-8"))
         for ending in (".PLA", ".Table", ".CELLS", ".Csv"):
             self.written("convert", path, self.folder / f"out{ending}")
             self.assertIn("cells   7\n", self.written("info", self.folder / f"out{ending}"))
@@ -59,13 +61,28 @@ class Endings(WithFolder):
         self.refused(f"yav: {out}: its ending tells pla, and cells is asked for\n", "log", PAIRS, "0000", "-o", out, "--to", "cells")
 
     def test_one_that_tells_nothing(self):
-        known = "known are .svg, .dot, .gv, .txt; or name one of svg, dot, text"
+        known = "known are .svg, .dot, .gv, .txt; or --to names one of svg, dot, text, summary"
         for name in ("out.png", "out.xyz", "out"):
             self.refused(f"yav: {self.folder / name}: its ending tells no format: {known}\n", "show", GUARD, "-o", self.folder / name)
         for name in ("out", "out.bin"):
             self.written("show", GUARD, "--svg", "-o", self.folder / name)
-        known = "known are .blif, .v, .sv; or name one of blif, verilog"
-        self.refused(f"yav: {self.folder / 'x.txt'}: its ending tells no format: {known}\n", "export", GUARD, "-o", self.folder / "x.txt")
+        known = "known are .blif, .v, .sv; or --to names one of blif, verilog"
+        for name, told in (("x.txt", "a format that can't be had here"), ("x.foo", "no format")):
+            self.refused(f"yav: {self.folder / name}: its ending tells {told}: {known}\n", "export", GUARD, "-o", self.folder / name)
+        self.written("show", GUARD, "--summary", "-o", self.folder / "out.txt")
+
+    def test_a_table_is_not_written_over_by_another_text(self):
+        path = self.file("page.txt", "A page.\n\n" + "".join(f"    {line}\n" for line in Table.from_rows("0110").to_drawing().splitlines()))
+        before = path.read_bytes()
+        link = self.folder / "link.txt"
+        link.symlink_to(path)
+        told = "it is the file that is read, and what stands in it would be lost; name another\n"
+        for word, *more in (("show", path, "-o", path), ("convert", path, path), ("convert", link, path), ("log", path, "00", "-o", link)):
+            self.refused(f"yav: {more[-1]}: {told}", word, *more)
+        self.assertEqual(path.read_bytes(), before)
+        cells = self.file("in.cells", (EXAMPLES / "xor.cells").read_bytes())
+        self.written("convert", cells, cells, "--order", "x1,x0")
+        self.assertEqual(self.written("order", cells), "2 cells in the order x1 x0\n")
 
     def test_names_that_a_format_does_not_take(self):
         sheet = self.file("clerk.csv", "left lamp,|,y\n0,|,0\n1,|,1\n")
@@ -79,7 +96,7 @@ class Standard(WithFolder):
         for kind in ("drawing", "pla", "csv", "svg", "dot", "blif", "verilog"):
             out = self.folder / "out"
             self.written("convert", GUARD, out, "--to", kind)
-            self.assertEqual(self.run_by("convert", GUARD, "-", "--to", kind).stdout.encode(), out.read_bytes().replace(b"\r\n", b"\r\n"))
+            self.assertEqual(self.run_by("convert", GUARD, "-", "--to", kind).stdout.encode(), out.read_bytes())
         self.assertEqual(self.written("show", GUARD, "-o", "-"), self.written("show", GUARD))
         self.assertEqual(self.written("export", GUARD, "--blif", "-o", "-"), self.written("export", GUARD, "--to", "blif"))
         self.assertFalse((ROOT / "-").exists())
@@ -92,14 +109,16 @@ class Standard(WithFolder):
 
     def test_input_in_every_word(self):
         for word, *more in (
-            ("show",), ("export", "--blif"), ("order",), ("info",), ("check",), ("moves",), ("evaluate", "11"), ("swap", "0"), ("log", "00"),
+            ("show",), ("export", "--blif"), ("order",), ("info",), ("check",), ("moves",), ("evaluate", "11"), ("swap", "0"),
+            ("log", "00"),
         ):
             wanted = self.written(word, "examples/xor.txt", *more)
             told = self.written(word, "-", *more, "--from", "drawing", given=XOR)
             self.assertEqual(told.replace(".model network", ".model xor"), wanted)
         self.assertEqual(self.written("convert", "-", "-", "--from", "drawing", "--to", "pla", given=XOR), Table.from_drawing(XOR).to_pla())
         with open(EXAMPLES / "xor.cells", "rb") as file:
-            run = subprocess.run([str(ROOT / "yav"), "order", "-", "--from", "cells"], stdin=file, capture_output=True, text=True, check=True)
+            command = [str(ROOT / "yav"), "order", "-", "--from", "cells"]
+            run = subprocess.run(command, stdin=file, capture_output=True, text=True, check=True)
         self.assertEqual(run.stdout, "2 cells in the order x0 x1\n")
 
     def test_a_file_beside_what_is_told(self):
@@ -118,10 +137,24 @@ class Standard(WithFolder):
         wanted = "yav: standard output: it has no ending that tells a format; --to names one of blif, verilog\n"
         self.refused(wanted, "export", GUARD)
 
+    def test_a_file_of_that_name(self):
+        (self.folder / "-").write_text(XOR, encoding="utf-8")
+        command = [str(ROOT / "yav"), "order", "./-", "--from", "drawing"]
+        run = subprocess.run(command, cwd=self.folder, env=PLAIN, capture_output=True, text=True)
+        self.assertEqual((run.stdout, run.stderr), ("2 cells in the order left right\n", ""))
+
+    def test_names_with_a_leading_dash_and_none(self):
+        path = self.file("-x.txt", XOR)
+        for words in (("order", "--", "-x.txt"), ("order", "--sift", "--", "-x.txt"), ("order", "./-x.txt")):
+            run = subprocess.run([str(ROOT / "yav"), *words], cwd=self.folder, env=PLAIN, capture_output=True, text=True)
+            self.assertEqual((run.stdout, run.stderr), ("2 cells in the order left right\n", ""), path)
+        self.misused("argument FILE: the file's name is empty", "order", "")
+        self.misused("argument -o: the file's name is empty", "show", GUARD, "-o", "")
+
     def test_errors_name_it(self):
         self.refused("yav: standard input:2:3: 2 is not an input's mark", "show", "-", "--from", "drawing", given="a b | y\n0 2 | 1\n")
         wanted = "yav: standard input: it can be read only once, and - names it twice\n"
-        self.refused(wanted, "evaluate", "-", "--from", "drawing", "--rows", "-", given=XOR)
+        self.refused(wanted, "evaluate", "-", "--from", "drawing", "--rows", "-", given="00\n")
         self.refused(wanted, "log", PAIRS, "--rows", "-", "--rows", "-", given="0000\n")
 
     def test_a_terminal_gets_no_bytes(self):
@@ -139,19 +172,32 @@ class Broken(WithFolder):
     run_by = staticmethod(yav)
 
     def shell(self, line):
-        run = subprocess.run(["bash", "-c", line], cwd=ROOT, capture_output=True, text=True)
+        run = subprocess.run(["bash", "-c", line], cwd=ROOT, env=PLAIN, capture_output=True, text=True)
         return run.returncode, run.stderr
 
     def test_a_reader_that_has_read_enough(self):
         rows = self.file("rows", "11111\n" * 20000)
         self.assertEqual(self.shell(f"./yav evaluate {GUARD} --rows {rows} | head -1; exit ${{PIPESTATUS[0]}}"), (141, ""))
-        self.assertEqual(self.shell(f"./yav convert {GUARD} - --to svg | true; exit ${{PIPESTATUS[0]}}")[1], "")
+        for words in (f"convert {GUARD} - --to svg", "--help", f"evaluate {GUARD}"):
+            status, told = self.shell(f"./yav {words} | true; exit ${{PIPESTATUS[0]}}")
+            self.assertEqual((status in (0, 141), told), (True, ""), words)
 
     def test_no_space(self):
         for words in ("info", "show --svg", "show", "evaluate", "export --blif", "check"):
             told = self.shell(f"./yav {words} {GUARD} > /dev/full")
             self.assertEqual(told, (1, "yav: standard output: No space left on device\n"), words)
         self.assertEqual(self.shell(f"./yav convert {GUARD} /dev/full --to pla"), (1, "yav: /dev/full: No space left on device\n"))
+        for words in ("--help", "--version", "show --help", "completion bash"):
+            self.assertEqual(self.shell(f"./yav {words} > /dev/full"), (1, "yav: standard output: No space left on device\n"), words)
+
+    def test_a_standard_error_that_fails(self):
+        """What is told there is lost, and nothing else."""
+        for end in ("2>/dev/full", "2>&-", "2> >(true)"):
+            self.assertEqual(self.shell(f"./yav info nowhere.txt {end}"), (1, ""), end)
+            told = f"$(./yav order {PAIRS} --sift-to-rest {end})"
+            self.assertEqual(self.shell(f"test \"{told}\" = '4 cells in the order a b c d'"), (0, ""), end)
+        told = self.shell(f"./yav swap {PAIRS} 1 -o - --to blif 2>/dev/full >/dev/null")
+        self.assertEqual(told, (1, ""))
 
     def test_a_closed_output(self):
         for words in ("info", "show --svg", "show", "evaluate", "convert --to pla"):
@@ -162,13 +208,12 @@ class Broken(WithFolder):
         self.assertEqual(self.shell("./yav show nowhere.txt 2>&-"), (1, ""))
 
     def test_an_interrupt(self):
-        run = subprocess.Popen(
-            [str(ROOT / "yav"), "show", "-", "--from", "drawing"], cwd=ROOT, stdin=subprocess.PIPE, stdout=subprocess.PIPE, stderr=subprocess.PIPE,
-        )
+        command, pipe = [str(ROOT / "yav"), "show", "-", "--from", "drawing"], subprocess.PIPE
+        run = subprocess.Popen(command, cwd=ROOT, stdin=pipe, stdout=pipe, stderr=pipe)
         run.stdin.write(b"#")
         run.stdin.flush()
         waiting = array.array("i", [1])
-        while waiting[0]:
+        while waiting[0] and run.poll() is None:
             # It has begun to read once nothing is left in the pipe.
             fcntl.ioctl(run.stdin, termios.FIONREAD, waiting)
         run.send_signal(signal.SIGINT)
@@ -208,8 +253,10 @@ class Shown(WithFolder):
 
     def test_names_that_a_terminal_would_obey(self):
         path = self.file("red.pla", ".i 2\n.o 1\n.ilb a\x1b[31m b\u202e\n.ob y\a\n11 1\n.e\n")
-        for words in (("info",), ("show",), ("order",), ("moves",), ("evaluate",), ("log", "00"), ("swap", "0"), ("check",), ("show", "--summary")):
-            told = self.written(words[0], path, *words[1:])
+        for word, *more in (
+            ("info",), ("show",), ("order",), ("moves",), ("evaluate",), ("log", "00"), ("swap", "0"), ("check",), ("show", "--summary"),
+        ):
+            told = self.written(word, path, *more)
             self.assertTrue(all(sign.isprintable() or sign == "\n" for sign in told), told)
             self.assertIn("a\\x1b[31m", told)
         self.refused("there is no input z; there are a\\x1b[31m b\\u202e\n", "show", path, "--sift-input", "z")

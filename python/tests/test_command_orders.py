@@ -8,19 +8,20 @@ import unittest
 from running import CROSSED, EXAMPLES, GUARD, PAIRS, ROOT, WithFolder
 
 from yavdocsil import Network, Table
-from yavdocsil.command.options import order_of
+from yavdocsil.command.options import order_named
 from yavdocsil.command.files import BadWord
 
 # Every word that builds, with what it takes beside the file and the options.
 BUILDING = (
-    ("show",), ("export", "--blif"), ("order",), ("info",), ("evaluate",), ("moves",), ("swap", "0"), ("log", "0000"), ("convert", "-", "--to", "pla"),
+    ("show",), ("export", "--blif"), ("order",), ("info",), ("evaluate",), ("moves",), ("swap", "0"), ("log", "0000"),
+    ("convert", "-", "--to", "pla"),
 )
 # A table that a pass makes smaller, and a second one too.
 SLOW_TO_REST = "0100000101111000"
 
 
 def crossed():
-    return Table.from_drawing((ROOT / CROSSED).read_text())
+    return Table.from_drawing((ROOT / CROSSED).read_text(encoding="utf-8"))
 
 
 class Orders(WithFolder):
@@ -37,7 +38,7 @@ class Orders(WithFolder):
             names = "d c b a" if ending in (".txt", ".pla") else "x3 x2 x1 x0"
             self.assertEqual(self.written("order", out), f"4 cells in the order {names}\n")
         self.written("convert", CROSSED, self.folder / "sifted.txt", "--sift")
-        self.assertIn("places b a c d\n", (self.folder / "sifted.txt").read_text())
+        self.assertIn("places b a c d\n", (self.folder / "sifted.txt").read_text(encoding="utf-8"))
 
     def test_a_network_file_takes_an_order(self):
         out = self.folder / "out.cells"
@@ -47,10 +48,11 @@ class Orders(WithFolder):
     def test_names_with_commas_or_blanks_between(self):
         for text in ("b,a,c,d", "b a c d", "b, a, c, d", " b,a,c,d "):
             self.assertEqual(self.written("order", CROSSED, "--order", text), "4 cells in the order b a c d\n")
-        self.assertEqual(order_of("a,b a b", ["a", "b", "a,b"]), ["a,b", "a", "b"])
-        self.assertEqual(order_of("", []), [])
+        self.assertEqual(order_named("a,b a b", ["a", "b", "a,b"]), ["a,b", "a", "b"])
+        self.assertEqual(order_named("", []), [])
+        self.assertEqual(order_named("lamp, oven door", ["oven door", "lamp"]), ["lamp", "oven door"])
         with self.assertRaises(BadWord):
-            order_of("a,b", ["a,b", "c"])
+            order_named("a,b", ["a,b", "c"])
 
     def test_wrong_orders_are_told(self):
         for order, wanted in (
@@ -62,7 +64,7 @@ class Orders(WithFolder):
             ("0,1,2,3", "there is no input 0"),
         ):
             self.refused(wanted, "order", CROSSED, "--order", order)
-        self.refused("z", "convert", CROSSED, self.folder / "out.txt", "--order", "z")
+        self.refused("--order z: there is no input z, a b c d missing\n", "convert", CROSSED, self.folder / "out.txt", "--order", "z")
 
 
 class Sifting(WithFolder):
@@ -99,6 +101,8 @@ class Sifting(WithFolder):
         self.assertEqual(self.written("order", path, "--sift-to-rest", beside=beside), "5 cells in the order x3 x0 x2 x1\n")
         self.written("convert", path, self.folder / "rest.cells", "--sift-to-rest", beside=beside)
         self.assertEqual(self.written("order", self.folder / "rest.cells"), "5 cells in the order x3 x0 x2 x1\n")
+        one = self.file("one.txt", "a | y\n0 | 0\n1 | 1\n")
+        self.written("order", one, "--sift-to-rest", beside="yav: sifted to rest in 1 pass: 1 cell\n")
         beside = "yav: sifted to rest in 1 pass: 4 cells\n"
         self.assertEqual(self.written("order", PAIRS, "--sift-to-rest", beside=beside), "4 cells in the order a b c d\n")
 
@@ -111,9 +115,13 @@ class Sifting(WithFolder):
         table = Table.from_rows(["01"[bin(row).count("1") % 3 == 1] for row in range(256)])
         path = self.file("long.txt", table.to_drawing())
         leader, follower = os.openpty()
-        run = subprocess.run([str(ROOT / "yav"), "order", str(path), "--sift"], cwd=ROOT, stdout=subprocess.PIPE, stderr=follower, text=True)
+        command = [str(ROOT / "yav"), "order", str(path), "--sift"]
+        run = subprocess.run(command, cwd=ROOT, stdout=subprocess.PIPE, stderr=follower, text=True)
+        # The line's end comes last, so once it is there all is.
+        told = ""
+        while not told.endswith("\n"):
+            told += os.read(leader, 10000).decode()
         os.close(follower)
-        told = os.read(leader, 10000).decode()
         os.close(leader)
         self.assertEqual((run.returncode, run.stdout), (0, self.written("order", path, "--sift")))
         self.assertEqual(told.count("\r"), 9)

@@ -20,7 +20,8 @@ class Evaluating(WithFolder):
         first, second = self.file("first", "0011\n"), self.file("second", "# seen\n\n0 1 0 1  # once\r\n1111")
         told = self.written("evaluate", PAIRS, "0000", "--rows", first, "--rows", second)
         self.assertEqual(told, self.written("evaluate", PAIRS, "0000", "0011", "0101", "1111"))
-        self.assertEqual(self.written("evaluate", PAIRS, "--rows", "-", given="0000\n0011\n"), self.written("evaluate", PAIRS, "0000", "0011"))
+        told = self.written("evaluate", PAIRS, "--rows", "-", given="0000\n0011\n")
+        self.assertEqual(told, self.written("evaluate", PAIRS, "0000", "0011"))
 
     def test_options_between_the_file_and_the_rows(self):
         wanted = self.written("evaluate", PAIRS, "1111", "0000")
@@ -71,7 +72,7 @@ class Logging(WithFolder):
             self.assertEqual(run("log", PAIRS, "--rows", "-", "--least", "2", given="\n".join(SEEN)).stdout, wanted)
 
     def test_the_table_is_written_in_any_format(self):
-        network = Network(Table.from_drawing((ROOT / PAIRS).read_text()))
+        network = Network(Table.from_drawing((ROOT / PAIRS).read_text(encoding="utf-8")))
         network.log([int(row, 2) for row in SEEN])
         for ending in (".txt", ".pla", ".table"):
             out = self.folder / f"out{ending}"
@@ -84,7 +85,7 @@ class Logging(WithFolder):
 
     def test_the_order_is_given_before_and_sifted_after(self):
         told = self.written("log", CROSSED, *SEEN, "--order", "d,a,c,b", "--sift", "-o", self.folder / "out.txt").splitlines()
-        network = Network(Table.from_drawing((ROOT / CROSSED).read_text()))
+        network = Network(Table.from_drawing((ROOT / CROSSED).read_text(encoding="utf-8")))
         network.reorder("dacb")
         before = network.count()
         network.log([int(row, 2) for row in SEEN])
@@ -92,7 +93,7 @@ class Logging(WithFolder):
         self.assertTrue(told[-2].startswith(f"before  {before} cells in the order d a c b; "))
         order = " ".join(network.inputs[number] for number in network.order)
         self.assertTrue(told[-1].startswith(f"now     {network.count()} cells in the order {order}; "))
-        self.assertEqual(Table.from_drawing((self.folder / "out.txt").read_text()), network.table)
+        self.assertEqual(Table.from_drawing((self.folder / "out.txt").read_text(encoding="utf-8")), network.table)
 
     def test_the_new_care_has_to_fit_the_board(self):
         self.assertIn("now     2 cells", self.written("log", PAIRS, *SEEN, "--board", "2"))
@@ -102,7 +103,7 @@ class Logging(WithFolder):
     def test_marks_that_were_free_are_told(self):
         told = self.written("log", GUARD, "00100", "11111", "-o", self.folder / "out.txt")
         self.assertTrue(told.endswith("\nfree before and cared now, as 0: 2 marks\n"))
-        self.assertEqual(Table.from_drawing((self.folder / "out.txt").read_text()).rows[4], "00")
+        self.assertEqual(Table.from_drawing((self.folder / "out.txt").read_text(encoding="utf-8")).rows[4], "00")
         self.assertNotIn("free before", self.written("log", GUARD, "11111"))
 
     def test_a_network_file_and_tables_with_no_input(self):
@@ -148,7 +149,7 @@ class Refusing(WithFolder):
 
     def test_what_can_not_be_written(self):
         out = self.folder / "out.svg"
-        self.refused(f"{out}: its ending tells no format: known are .txt, ", "log", PAIRS, "0000", "-o", out)
+        self.refused(f"{out}: its ending tells a format that can't be had here: known are .txt, ", "log", PAIRS, "0000", "-o", out)
         self.refused("--to pla: there is no file to write; -o names one", "log", PAIRS, "0000", "--to", "pla")
 
 
@@ -168,7 +169,7 @@ class Reading(unittest.TestCase):
         self.assertEqual((caught.exception.line, caught.exception.column), (2, 3))
 
     def test_the_example(self):
-        self.assertEqual(rows.read((EXAMPLES / "and-or.rows").read_text(), "abcd"), [int(row, 2) for row in SEEN])
+        self.assertEqual(rows.read((EXAMPLES / "and-or.rows").read_text(encoding="utf-8"), "abcd"), [int(row, 2) for row in SEEN])
 
 
 if __name__ == "__main__":

@@ -8,6 +8,7 @@ from running import CROSSED, EXAMPLES, GUARD, PAIRS, WithFolder, yav
 from yavdocsil import Network, Table
 
 CELLS = "examples/and-or-crossed.cells"
+HERE = "a format that can't be had here"
 
 
 class Swapping(WithFolder):
@@ -62,18 +63,22 @@ class Refusing(WithFolder):
         self.refused("swap 0: refused 9: ", "swap", self.file("none.txt", "| y\n| 1\n"), "0")
         for place in ("-1", "a", "one", "", "1.0", "a,c", "a,a", "a,z", ",", "a,b,c", "²"):
             self.refused(f"{PAIRS}: swap {place}: it is no place's number", "swap", PAIRS, place)
-        self.refused("out of range for a place", "swap", PAIRS, 2**64)
+        for place in (10**9, 2**64, "1" + "0" * 5000):
+            self.refused(f"{PAIRS}: swap {place}: refused 9: ", "swap", PAIRS, place)
+        self.assertEqual(self.written("swap", PAIRS, "0" * 5000 + "1"), self.written("swap", PAIRS, "1"))
 
     def test_a_board_that_is_too_small(self):
         out = self.folder / "out.cells"
-        self.refused("swap 1: refused 23: the board has too few cells: 6 are wanted, it has 5", "swap", PAIRS, "1", "--board", "5", "-o", out)
+        wanted = "swap 1: refused 23: the board has too few cells: 6 are wanted, it has 5\n"
+        self.refused(wanted, "swap", PAIRS, "1", "--board", "5", "-o", out)
         self.refused(f"{CELLS}: refused 23: the board has too few cells: 6 are wanted, it has 5", "swap", CELLS, "1", "--board", "5")
         self.assertIn("6 cells in the order a c b d\n", self.written("swap", PAIRS, "1", "--board", "6", "-o", out))
 
     def test_what_can_not_be_written(self):
-        for name in ("out.txt", "out.table", "out.pla", "out"):
+        for name, told in (("out.txt", HERE), ("out.table", HERE), ("out.pla", HERE), ("out", "no format")):
             out = self.folder / name
-            self.refused(f"{out}: its ending tells no format: known are .cells, .svg, .dot, .gv, .blif, .v, .sv; ", "swap", PAIRS, "1", "-o", out)
+            wanted = f"{out}: its ending tells {told}: known are .cells, .svg, .dot, .gv, .blif, .v, .sv; "
+            self.refused(wanted, "swap", PAIRS, "1", "-o", out)
         self.refused("--to svg: there is no file to write; -o names one", "swap", PAIRS, "1", "--to", "svg")
         nowhere = pathlib.Path("/nowhere/out.svg")
         self.refused(f"{nowhere}: No such file", "swap", PAIRS, "1", "-o", nowhere)

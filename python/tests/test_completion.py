@@ -14,7 +14,7 @@ import unittest
 
 from running import ROOT, WithFolder
 
-from yavdocsil.command.completion import SHELLS, UnknownShell, script
+from yavdocsil.command.completion import SHELLS, script
 from yavdocsil.command.parser import parser
 
 PAGE = ROOT / "docs" / "yav.1"
@@ -208,12 +208,7 @@ def by_line(lines, said):
     return {line: set(answer.split("\n")) - {""} for line, answer in zip(lines, answers)}
 
 
-class Unknown(unittest.TestCase):
-    def test_shell(self):
-        with self.assertRaises(UnknownShell) as caught:
-            script("tcsh", toy())
-        self.assertEqual(str(caught.exception), "there is no completion for tcsh, but for bash, zsh, fish")
-
+class Bare(unittest.TestCase):
     def test_parser_without_words(self):
         bare = argparse.ArgumentParser(prog="bare")
         bare.add_argument("file", metavar="FILE")

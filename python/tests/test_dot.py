@@ -60,7 +60,7 @@ class Dot(unittest.TestCase):
     def test_the_colours_are_those_of_the_svg(self):
         for diagram in (XOR, LARGE):
             written = dot.write(diagram)
-            self.assertEqual(set(re.findall(r"arrowhead=dot, .*?fillcolor=\"(#\w+)\"", written)), {svg.DOT})
+            self.assertEqual(set(re.findall(r"arrowhead=dot, .*?fillcolor=\"(#\w+)\"", written)), {svg.DOT_INK})
             self.assertEqual(set(re.findall(r"style=dashed, color=\"(#\w+)\"", written)), {svg.SHADE})
 
     def test_a_part_of_a_network(self):

@@ -48,7 +48,7 @@ class Examples(unittest.TestCase):
         self.assertGreaterEqual(len(drawings), 4)
         for path in drawings:
             with self.subTest(path.name):
-                text = path.read_text()
+                text = path.read_text(encoding="utf-8")
                 inputs, outputs, rows = other.drawn_rows(text)
                 table = Table.from_drawing(text)
                 self.assertEqual(table.inputs, tuple(inputs))
@@ -59,12 +59,12 @@ class Examples(unittest.TestCase):
     def test_their_table_files(self) -> None:
         for path in EXAMPLES.glob("*.txt"):
             with self.subTest(path.name):
-                self.assertEqual(Table.from_drawing(path.read_text()).to_file(), path.with_suffix(".table").read_bytes())
+                self.assertEqual(Table.from_drawing(path.read_text(encoding="utf-8")).to_file(), path.with_suffix(".table").read_bytes())
 
     def test_what_is_written_of_them_reads_alike(self) -> None:
         for path in EXAMPLES.glob("*.txt"):
             with self.subTest(path.name):
-                table = Table.from_drawing(path.read_text())
+                table = Table.from_drawing(path.read_text(encoding="utf-8"))
                 self.assertEqual(Table.from_drawing(table.to_drawing()), table)
 
 
@@ -229,7 +229,7 @@ class Errors(unittest.TestCase):
         self.check("text\n  a b | y\n  places a b\n\n  places b a", 5, 3, "lines 3 and 5")
 
     def test_other_text(self) -> None:
-        self.check("a b | y\n 0 0 1 x", 2, 2, "this is no row")
+        self.check("a b | y\n 0 zero 1 x", 2, 2, "this is no row")
         self.check("A title\n\na b | y", 1, 1, "this is no row")
         self.check("a b | y\nPlaces b a", 2, 1, "this is no row")
         self.check("a b | y\n0 0 | 1\n  and so on", 3, 3, "this is no row")
@@ -238,8 +238,14 @@ class Errors(unittest.TestCase):
         for text, line, column in (
             ("a b | y\n0 0 1", 2, 1), ("a b | y\n  00 1", 2, 3), ("0 0 1\na b | y", 1, 1), ("a b | y\n-", 2, 1),
             ("Text\n  a b | y\n  0 0 1", 3, 3), ("Text\n  a b | y\n0 0 - # free", 3, 1), ("Text\n----\n  a b | y", 2, 1),
+            ("Text\n  a b | y\n  0 0 | 1\n  1 0 I 1", 4, 3), ("Text\n  a b | y\n 0 1 ! 1\n  1 1 | 0", 3, 2), ("a b | y\n 0 0 1 x", 2, 2),
         ):
             self.check(text, line, column, "a row without a bar")
+
+    def test_text_that_begins_with_a_mark(self) -> None:
+        for text in ("1 of them", "- a point", "0 is off, 1 is on", "0 zero"):
+            self.assertEqual(Table.from_drawing(f"{text}\n  a b | y\n  0 1 | 1\n\n{text}\n").rows, ["-", "1", "-", "-"])
+        self.assertEqual(Table.from_drawing("0 off\n  a | y\n  0 | 1\n").rows, ["1", "-"])
 
     def test_a_page_with_a_bar_in_its_text(self) -> None:
         self.check("Text with a | in it\n\n    a b | y\n", 3, 5, "a is not an input's mark")

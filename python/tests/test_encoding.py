@@ -12,6 +12,7 @@ sys.path.insert(0, str(PYTHON))
 
 from yavdocsil import Malformed
 from yavdocsil.errors import Error
+from yavdocsil.reading import blif, drawing, pla, sheet
 from yavdocsil.reading.encoding import NotText, decoded
 
 MARK = b"\xef\xbb\xbf"
@@ -23,10 +24,13 @@ class Text(unittest.TestCase):
             self.assertEqual(decoded(text.encode()), text)
 
     def test_one_byte_order_mark_is_skipped(self) -> None:
-        self.assertEqual(decoded(MARK + b"a | y\n"), "a | y\n")
-        self.assertEqual(decoded(MARK), "")
-        self.assertEqual(decoded(MARK + MARK + b"a"), "\ufeffa")
-        self.assertEqual(decoded(b"a" + MARK), "a\ufeff")
+        """By the readers, to whom a text may come with it from elsewhere, too; a second one is part of a name, which none has."""
+        for read, text in (
+            (drawing.read, "a | y\n"), (sheet.read, "a,|,y\n"), (pla.read, ".i 1\n.o 1\n"), (blif.read, ".inputs a\n.outputs a\n"),
+        ):
+            self.assertEqual(read(decoded(MARK + text.encode())), read(text))
+            with self.assertRaises(Malformed):
+                read(decoded(MARK + MARK + text.encode()))
 
 
 class Wrong(unittest.TestCase):
@@ -45,6 +49,8 @@ class Wrong(unittest.TestCase):
         for mark, name in ((b"\xff\xfe", "utf-16-le"), (b"\xfe\xff", "utf-16-be")):
             for text in ("", "a | y\n", "灯\n"):
                 self.check(mark + text.encode(name), reason.format("utf-16"))
+        for name in ("utf-32-le", "utf-32-be"):
+            self.check("\ufeffa | y\n".encode(name), "it is UTF-32, not UTF-8: save it as UTF-8, or use iconv -f utf-32 -t utf-8")
         self.check("a | y\n".encode("utf-16-le"), reason.format("utf-16le"))
         self.check("a | y\n".encode("utf-16-be"), reason.format("utf-16be"))
 

@@ -6,10 +6,12 @@ import random
 import re
 import unittest
 from collections.abc import Sequence
+from dataclasses import replace
 
 from export_readers import Read, read_blif, read_verilog
 from yavdocsil.diagram import Cell, Diagram
 from yavdocsil.exports import blif, names, verilog
+from yavdocsil.reading import blif as blif_reader
 
 
 def diagram_of(cells: Sequence[tuple[int, int, int]], roots: Sequence[int], inputs: Sequence[str], outputs: Sequence[str] = ()) -> Diagram:
@@ -103,6 +105,16 @@ class Texts(unittest.TestCase):
         lines = [".model network", ".inputs a b", ".outputs y", ".names a cell2 cell1", "01 1", "10 1", ".names b cell2", "1 1",
                  ".names cell1 y", "1 1", ".end", ""]
         self.assertEqual(blif.write(XOR).split("\n"), lines)
+
+    def test_the_order_in_blif(self) -> None:
+        """A comment for other tools, and read here again; under the names that the file has."""
+        text = blif.write(BOUNCE_GUARD)
+        self.assertIn("\n.outputs hold advance\n# places held a b c d\n", text)
+        self.assertEqual(blif_reader.read(text).order, BOUNCE_GUARD.order)
+        crossed = replace(XOR, inputs=("a b", "$"), order=(1, 0))
+        self.assertIn("\n# places _ a_b\n", blif.write(crossed))
+        self.assertEqual(blif_reader.read(blif.write(crossed)).order, (1, 0))
+        self.assertNotIn("places", blif.write(XOR))
 
     def test_verilog(self) -> None:
         lines = ["module network (a, b, y);", "    input a, b;", "    output y;", "    wire cell1;", "    wire cell2;",

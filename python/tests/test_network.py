@@ -1,5 +1,6 @@
 """Tests of networks over the library: every call, its refusals by number and word, files there and back, copies, and the library's file."""
 
+import concurrent.futures
 import copy
 import itertools
 import os
@@ -37,7 +38,7 @@ CROSSED = Table.from_rows([[a and b or c and d] for a, b, c, d in itertools.prod
 
 
 def drawn(name):
-    return Table.from_drawing((ROOT / "examples" / f"{name}.txt").read_text())
+    return Table.from_drawing((ROOT / "examples" / f"{name}.txt").read_text(encoding="utf-8"))
 
 
 def random_table(rng, n, m=2):
@@ -49,7 +50,7 @@ def random_table(rng, n, m=2):
 
 def buffers(network):
     """The bytes of each buffer."""
-    return {name: bytes(lent) for name, lent in vars(network._lent).items()}
+    return network._lent.__getstate__()
 
 
 class Counted:
@@ -117,6 +118,16 @@ class Calls(unittest.TestCase):
         with self.assertRaises(Refused) as caught:
             network.on_board(5)
         self.assertEqual((caught.exception.number, caught.exception.value, caught.exception.board), (23, 6, 5))
+        self.assertEqual((network.board, network.on_board(6).board), (library.MOST_CELLS, 6))
+
+    def test_a_board_changes_nothing_else(self):
+        network = Network(EXCLUSIVE_OR)
+        network.log([0, 0])
+        other = network.on_board(10)
+        self.assertEqual((other.seen, other.table), (network.seen, network.table))
+        for each in (network, other):
+            each.log([1])
+            self.assertEqual(each.table.rows, ["0", "1", "-", "-"])
 
     def test_a_log_makes_the_care(self):
         network = Network(CROSSED)
@@ -192,7 +203,7 @@ class Refusals(unittest.TestCase):
         self.refused(23, Network.from_file, alike, 0, value=1)
 
     def test_every_number_of_the_header_has_words(self):
-        header = (ROOT / "include" / "yavdocsil.h").read_text()
+        header = (ROOT / "include" / "yavdocsil.h").read_text(encoding="utf-8")
         numbers = header[header.index("YAV_DONE = 0") :]
         found = {int(number) for number in re.findall(r"^ +YAV_\w+ = (\d+)", numbers[: numbers.index("};")], re.MULTILINE)}
         self.assertEqual(found, set(REFUSALS))
@@ -324,7 +335,7 @@ class Passes(unittest.TestCase):
     def test_a_limit_that_is_none(self):
         for progress in (None, lambda *_: self.fail("no sift is allowed")):
             for wrong in (-1, -(2**40)):
-                with self.assertRaisesRegex(ValueError, f"^{wrong} is out of range for a limit$"):
+                with self.assertRaisesRegex(ValueError, f"^limit: {wrong} is out of range$"):
                     Network(CROSSED).sift_all(wrong, progress)
 
     def test_passes_until_one_brings_nothing(self):
@@ -347,6 +358,33 @@ class Passes(unittest.TestCase):
             self.assertEqual(Network(table).sift_to_rest(), cells)
             lengths.add(len(cells))
         self.assertTrue({1, 2, 3} <= lengths, lengths)
+
+
+class Threads(unittest.TestCase):
+    """The library works while other threads run, so a network that they share has to keep them apart."""
+
+    def test_a_network_that_threads_share(self):
+        chance = random.Random(9)
+        table = Table.from_rows(["".join(chance.choice("01-") for _ in range(8)) for _ in range(256)])
+        network = Network(table)
+        wanted = (network.count(), network.moves(), network.diagram, network.build())
+        asked = (network.count, network.moves, lambda: network.diagram, network.build)
+        with concurrent.futures.ThreadPoolExecutor(4) as threads:
+            answers = [[threads.submit(ask) for ask in asked] for _ in range(40)]
+        for turn in answers:
+            self.assertEqual(tuple(answer.result() for answer in turn), wanted)
+        for row, marks in enumerate(table.rows):
+            self.assertTrue(all(mark in ("-", str(bit)) for mark, bit in zip(marks, network.evaluate([row])[0])))
+
+    def test_a_pass_is_not_interrupted(self):
+        wanted = Network(CROSSED)
+        wanted.sift_all()
+        for _ in range(20):
+            network = Network(CROSSED)
+            with concurrent.futures.ThreadPoolExecutor(2) as threads:
+                threads.submit(network.sift_all, progress=lambda *_: None)
+                threads.submit(network.build)
+            self.assertEqual(network.order, wanted.order)
 
 
 class Copies(unittest.TestCase):
@@ -372,7 +410,9 @@ class Copies(unittest.TestCase):
                 self.assertEqual((again.table, again.seen), (network.table, network.seen))
                 self.assertEqual((again.cells, again.roots), (network.cells, network.roots))
                 before = buffers(network)
-                for name, lent in vars(again._lent).items():
+                self.assertIsNot(again._lent.lock, network._lent.lock)
+                for name in before:
+                    lent = vars(again._lent)[name]
                     self.assertIs(type(lent), type(vars(network._lent)[name]))
                     for at in range(min(len(lent), 1)):
                         lent[at] ^= 1
@@ -494,7 +534,7 @@ class TheLibrary(unittest.TestCase):
         self.put("installed")
         end = "./build makes it, or YAVDOCSIL_LIBRARY says where it is"
         for arguments, where in (
-            (("", "nowhere", "there"), f"it should be {self.folder}/there"),
+            (("", "nowhere", "there"), f"it should be {self.folder}/nowhere or {self.folder}/there"),
             (("/nowhere/library.so", "installed", "there"), "YAVDOCSIL_LIBRARY names /nowhere/library.so"),
             ((str(self.folder), "installed", "there"), f"YAVDOCSIL_LIBRARY names {self.folder}"),
         ):
@@ -540,7 +580,7 @@ class TheLibrary(unittest.TestCase):
         self.assertEqual(Network(EXCLUSIVE_OR, board=Counted(2)).build(), 2)
 
     def test_the_version_is_a_plain_line(self):
-        lines = (PYTHON / "yavdocsil" / "__init__.py").read_text().splitlines()
+        lines = (PYTHON / "yavdocsil" / "__init__.py").read_text(encoding="utf-8").splitlines()
         self.assertIn(f'__version__ = "{yavdocsil.__version__}"', lines)
 
 

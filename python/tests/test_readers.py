@@ -15,7 +15,7 @@ PYTHON = pathlib.Path(__file__).resolve().parent.parent
 sys.path.insert(0, str(PYTHON))
 
 from yavdocsil import Malformed, Table
-from yavdocsil.errors import Faults
+from yavdocsil.errors import MOST_GATHERED, Faults
 from yavdocsil.reading import Content, blif, drawing, pla, rows, sheet
 
 LINES = 50_000
@@ -169,22 +169,29 @@ class LongTexts(unittest.TestCase):
 
 
 class ManyErrors(unittest.TestCase):
-    def test_rows_are_told_together(self) -> None:
-        faults = Faults(gathers=True)
-        with self.assertRaises(Malformed) as caught:
-            rows.read("00\n0\n11 # so\n\n  012\n0\x1b\n" + "0" * 50, "ab", faults)
-        told = "is no row: it takes 2 bits, for a b"
-        self.assertEqual([str(error) for error in faults.found], [
-            f"line 2, column 1: 0 {told}", f"line 5, column 3: 012 {told}", f"line 6, column 1: 0\\x1b {told}",
-            f"line 7, column 1: {'0' * 40}.. {told}",
-        ])
-        self.assertIs(caught.exception, faults.found[0])
+    def test_no_more_than_are_gathered_and_none_twice(self) -> None:
+        many = 2 * MOST_GATHERED
+        for reader, text in (
+            (drawing.read, "Text\n  a | y\n" + "  what\n" * many + "  0 | 1\n"), (drawing.read, "a | y\n" + "2 | 1\n" * many),
+            (sheet.read, "a,|,y\n" + "2,|,1\n" * many),
+        ):
+            faults = Faults(gathers=True)
+            with self.assertRaises(Malformed):
+                reader(text, faults)
+            self.assertEqual(len({error.line for error in faults.found}), MOST_GATHERED)
+            self.assertEqual(len(faults.found), MOST_GATHERED)
 
-    def test_rows_without_an_error(self) -> None:
-        faults = Faults(gathers=True)
-        self.assertEqual(rows.read("\ufeff00\n11\r\n1 0\r01", "ab", faults), [0, 3, 2, 1])
-        self.assertEqual(rows.read("\n# so\n", [], faults), [])
-        self.assertEqual(faults.found, [])
+    def test_rows_of_a_file(self) -> None:
+        self.assertEqual(rows.read("\ufeff00\n11\r\n1 0\r01", "ab"), [0, 3, 2, 1])
+        self.assertEqual(rows.read("\n# so\n", []), [])
+        for text, wanted in (
+            ("00\n0\n", "line 2, column 1: 0"), ("\n  012 # so", "line 2, column 3: 012"), ("0\x1b", "line 1, column 1: 0\\x1b"),
+            ("0" * 50, f"line 1, column 1: {'0' * 40}.."),
+        ):
+            with self.assertRaises(Malformed) as caught:
+                rows.read(text, "ab")
+            self.assertEqual(str(caught.exception), f"{wanted} is no row: it takes 2 bits, for a b")
+
 
 
 if __name__ == "__main__":

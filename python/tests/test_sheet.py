@@ -219,7 +219,7 @@ class Errors(unittest.TestCase):
         two = f"line 2, column 1: cell A2: 0\\r\\n1 {mark}"
         self.check('a,b,|,y\n"0\r\n1",0,|,1\n2,0,|,1\n', two, f"line 4, column 1: cell A3: 2 {mark}")
         # The lines up to the wrong cell are no rows.
-        self.check('a,b,|,y\n"0\n2\n","1"1,|,1\n2,0,|,1\n', f"line 4, column 3: cell B2: {behind}", f"line 5, column 1: cell A5: 2 {mark}")
+        self.check('a,b,|,y\n"0\n2\n","1"1,|,1\n2,0,|,1\n', f"line 4, column 3: cell B2: {behind}", f"line 5, column 1: cell A3: 2 {mark}")
 
     def test_the_lines_together(self) -> None:
         self.check(

@@ -17,7 +17,7 @@ try:
 except ImportError:
     numpy = None
 
-from yavdocsil import Error, Malformed, Network, Refused, Table
+from yavdocsil import Malformed, Network, NotText, Refused, Table, UnknownFormat
 from yavdocsil.reading import Content
 
 EXCLUSIVE_OR = Table.from_rows(["0", "1", "1", "0"])
@@ -118,16 +118,16 @@ class Rows(Refusing):
         self.refused("output 0, row 1: 2 is no mark, which is 0, 1 or None", lambda: Table.from_rows([[0], [2]]))
         self.refused("output 0, row 1: 2 is no mark, which is 0, 1 or None", lambda: Table.from_rows([0, 2]))
         self.refused("output 0, row 0: 0.0 is no mark, which is 0, 1 or None", lambda: Table.from_rows([0.0, 1]))
-        self.refused("a table has a power of two of rows, each with a mark for every output", lambda: Table.from_rows([0, "01"]))
+        self.refused("every row has a mark for each output: row 0 has 1, and row 1 2", lambda: Table.from_rows([0, "01"]))
 
     def test_wrong_numbers_of_rows_and_marks(self):
-        uneven = "a table has a power of two of rows, each with a mark for every output"
-        for rows in (["0", "1", "1"], ["0", "01"], ["", "1"], []):
-            self.refused(uneven, lambda rows=rows: Table.from_rows(rows))
+        for rows in (["0", "1", "1"], ["0", "01", "0"], []):
+            self.refused(f"a table has a power of two of rows, not {len(rows)}", lambda rows=rows: Table.from_rows(rows))
+        self.refused("every row has a mark for each output: row 0 has 0, and row 1 1", lambda: Table.from_rows(["", "1"]))
         self.refused("a table has 1 to 16 outputs, not 0", lambda: Table.from_rows(["", ""]))
         self.refused("a table has 1 to 16 outputs, not 17", lambda: Table.from_rows(["0" * 17]))
         self.refused("a table has at most 10 inputs, not 11", lambda: Table.from_rows(["0"] * 2048))
-        self.refused("every output has 4 rows", lambda: Table.from_rows(["0", "1"], inputs=["a", "b"]))
+        self.refused("with 2 inputs every output has 4 rows, not 2", lambda: Table.from_rows(["0", "1"], inputs=["a", "b"]))
 
 
 class Held(Refusing):
@@ -138,6 +138,8 @@ class Held(Refusing):
         self.assertEqual((table.columns, table.inputs, table.outputs, table.order), (((0, 1, 1, 0),), ("x0", "x1"), ("y0",), (0, 1)))
         self.assertEqual([type(number) for number in table.order], [int, int])
         self.assertEqual(table.reordered([1, 0]).order, (1, 0))
+        self.assertEqual(EXCLUSIVE_OR.reordered(["x1", "x0"]).order, (1, 0))
+        self.assertEqual(Table.from_rows("0110", "ab", order="ba").order, (1, 0))
 
     def test_wrong_names_and_orders(self):
         alike = "no two inputs and no two outputs have the same name"
@@ -146,7 +148,7 @@ class Held(Refusing):
         self.refused("a name is text, not 1", lambda: Table.from_rows(["0", "1"], inputs=[1]))
         self.refused("a name is text, not ['y']", lambda: Table.from_rows(["0", "1"], outputs=[["y"]]))
         self.refused("every output has one name", lambda: Table.from_rows(["0", "1"], outputs=["y", "z"]))
-        for order in ([0], [0, 0], [0, 2], [0, 1, 1], [0.0, 1.0], ["x0", "x1"], [0, 1, "x1"], [0, None], []):
+        for order in ([0], [0, 0], [0, 2], [0, 1, 1], [0.0, 1.0], ["x0", "x0"], ["x0", "z"], [0, 1, "x1"], [0, None], []):
             self.refused("the order has each input once", lambda order=order: EXCLUSIVE_OR.reordered(order))
 
     def test_copies_and_pickles_are_equal(self):
@@ -180,7 +182,7 @@ class Texts(unittest.TestCase):
     def test_a_note_is_a_warning_of_the_line_that_reads(self):
         with warnings.catch_warnings(record=True) as given:
             warnings.simplefilter("always")
-            Table._from_text(noting, "\ufeffthis")
+            Table._from_text(noting, "this")
         self.assertEqual([str(one.message) for one in given], ["line 1, column 3: this is odd", "line 2, column 3: this is odd"])
         self.assertEqual([one.category for one in given], [UserWarning] * 2)
         self.assertEqual({pathlib.Path(one.filename).name for one in given}, {"test_table.py"})
@@ -203,12 +205,12 @@ class Texts(unittest.TestCase):
             self.assertEqual(caught.exception.line, 1)
 
 
-class Files(unittest.TestCase):
+class Files(Refusing):
     def setUp(self):
         folder = tempfile.TemporaryDirectory()
         self.addCleanup(folder.cleanup)
         self.folder = pathlib.Path(folder.name)
-        self.table = Table.from_drawing((ROOT / "examples" / "bounce-guard.txt").read_text())
+        self.table = Table.from_drawing((ROOT / "examples" / "bounce-guard.txt").read_text(encoding="utf-8"))
 
     def put(self, name, content):
         path = self.folder / name
@@ -232,8 +234,30 @@ class Files(unittest.TestCase):
     def test_a_kind_can_be_named(self):
         self.assertEqual(Table.from_path(self.put("a", self.table.to_pla()), "pla"), self.table)
         self.assertEqual(Table.from_path(self.put("a.txt", self.table.to_csv()), kind="csv"), self.table)
-        with self.assertRaisesRegex(Error, "^its ending tells no format: known are "):
-            Table.from_path(self.folder / "a")
+        for read in (Table.from_path, Network.from_path):
+            with self.assertRaises(UnknownFormat) as caught:
+                read(self.folder / "a")
+            self.assertIn(f"{self.folder / 'a'}: its ending tells no format: known are ", str(caught.exception))
+            with self.assertRaisesRegex(UnknownFormat, ": svg can't be read; known are drawing, pla, csv, table, blif, cells$"):
+                read(self.folder / "a", "svg")
+
+    def test_errors_name_the_file(self):
+        path = self.put("bad.txt", "a | y\n2 | 1\n")
+        for read in (Table.from_path, Network.from_path):
+            with self.assertRaises(Malformed) as caught:
+                read(path)
+            self.assertEqual(str(caught.exception), f"{path}: line 2, column 1: 2 is not an input's mark, which is 0, 1 or -")
+            with self.assertRaises(NotText) as caught:
+                read(self.put("other.txt", "a".encode("utf-16")))
+            self.assertTrue(str(caught.exception).startswith(f"{self.folder / 'other.txt'}: it is UTF-16, not UTF-8: "))
+
+    def test_what_is_no_text_or_file(self):
+        for read in (Table.from_drawing, Table.from_pla, Table.from_csv, Table.from_blif):
+            self.refused("a text is wanted, not b'a | y'; from_path reads a file", lambda read=read: read(b"a | y"), TypeError)
+        for read in (Table.from_file, Network.from_file):
+            self.refused("a file's bytes are wanted, not 512", lambda read=read: read(512), TypeError)
+            self.refused("a file's bytes are wanted, not [257]", lambda read=read: read([257]), TypeError)
+        self.refused("a network is of a Table, not of 'x.txt'; Network.from_path reads a file", lambda: Network("x.txt"), TypeError)
 
     def test_what_a_reader_notes_is_warned_of(self):
         """A BLIF without its .end may have been cut short."""
@@ -244,7 +268,7 @@ class Files(unittest.TestCase):
                 warnings.simplefilter("always")
                 read()
             self.assertEqual([pathlib.Path(one.filename).name for one in given], ["test_table.py"])
-            self.assertTrue(str(given[0].message).startswith("line 1: "), given[0].message)
+            self.assertIn("line 1: there is no .end", str(given[0].message))
 
     def test_networks_of_files(self):
         built = Network(self.table)

@@ -11,9 +11,14 @@ It stands on the shared library, which ./build makes.
 
 from .diagram import Cell, Diagram
 from .errors import Error, Malformed, NotBuilt, Refused
+from .formats import UnknownFormat
 from .network import Network
+from .reading.encoding import NotText
+from .reading.rows import BadRow
 from .table import Table
 
 __version__ = "1.8.0"
 
-__all__ = ["Cell", "Diagram", "Error", "Malformed", "Network", "NotBuilt", "Refused", "Table"]
+__all__ = [
+    "BadRow", "Cell", "Diagram", "Error", "Malformed", "Network", "NotBuilt", "NotText", "Refused", "Table", "UnknownFormat",
+]

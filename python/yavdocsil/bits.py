@@ -15,6 +15,13 @@ def packed(bits: Sequence[int]) -> bytes:
     return bytes(octets)
 
 
+def octets(given: Any) -> bytes:
+    """A file's bytes. Numbers and texts, which Python could take for bytes too, are none."""
+    if not isinstance(given, (bytes, bytearray, memoryview)):
+        raise TypeError(f"a file's bytes are wanted, not {shown(given)}")
+    return bytes(given)
+
+
 def unpacked(octets: Sequence[int], count: int) -> list[int]:
     return [octets[i // 8] >> i % 8 & 1 for i in range(count)]
 

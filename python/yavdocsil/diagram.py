@@ -11,6 +11,7 @@ from functools import cached_property
 from typing import NamedTuple, Optional
 
 from .display import many
+from .errors import NO_ROW, Refused
 
 
 class Cell(NamedTuple):
@@ -55,6 +56,7 @@ class Diagram:
         return self.inputs[self.order[place]]
 
     def cells_at(self, place: int) -> list[Cell]:
+        """The cells of a place, in sequence."""
         return [cell for cell in self.cells if cell.place == place]
 
     @cached_property
@@ -99,6 +101,8 @@ class Diagram:
 
     def evaluate(self, row: int) -> tuple[int, ...]:
         """Each output at a row; in a row number input 0 is the most significant bit."""
+        if not 0 <= row < 2 ** len(self.inputs):
+            raise Refused(NO_ROW)
         return tuple(self._follow(root, row) for root in self.roots)
 
     def _follow(self, reference: int, row: int) -> int:

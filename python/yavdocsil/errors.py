@@ -4,7 +4,7 @@ from __future__ import annotations
 
 import sys
 import warnings
-from types import TracebackType
+from types import FrameType, TracebackType
 from typing import Any, Optional
 
 # The refusals of the calls, by the papers' numbers.
@@ -28,7 +28,7 @@ REFUSALS = {
     33: "there are more records than 32 bits count",
     34: "the report needs more entries",
 }
-TOO_SMALL = 23
+NO_ROW, TOO_SMALL = 8, 23
 # A reading that gathers its errors ends at so many.
 MOST_GATHERED = 100
 
@@ -52,21 +52,25 @@ class Refused(Error):
 
 
 class Malformed(Error):
-    """A text can't be read. Lines and columns count from 1; column 0 stands for the whole line."""
+    """A text can't be read. Lines and columns count from 1; column 0 stands for the whole line. `file` is its name, if it is a file's."""
 
-    def __init__(self, reason: str, line: int, column: int = 0) -> None:
-        self.reason, self.line, self.column = reason, line, column
+    def __init__(self, reason: str, line: int, column: int = 0, file: str = "") -> None:
+        self.reason, self.line, self.column, self.file = reason, line, column, file
         place = f"line {line}, column {column}" if column else f"line {line}"
-        super().__init__(f"{place}: {reason}")
+        super().__init__(": ".join([*filter(None, [file]), place, reason]))
 
     def __reduce__(self) -> tuple[Any, ...]:
-        return type(self), (self.reason, self.line, self.column)
+        return type(self), (self.reason, self.line, self.column, self.file)
+
+    def of(self, file: str) -> Malformed:
+        """The same, told with its file."""
+        return Malformed(self.reason, self.line, self.column, file)
 
 
 class Faults:
     """Where a reader tells what is wrong with a text.
 
-    A reader treats each line `with faults:`. The first error ends the reading, unless all are wanted: then those of one line are kept in
+    A reader treats each line `with faults:`. The first error ends the reading, unless all are wanted: then a line's error is kept in
     `found`, and the reading goes on with the next, up to MOST_GATHERED. `notes` has what is taken though it isn't as it should be.
     """
 
@@ -81,24 +85,32 @@ class Faults:
     def __exit__(self, kind: Optional[type[BaseException]], error: Optional[BaseException], trace: Optional[TracebackType]) -> bool:
         if not self.gathers or not isinstance(error, Malformed):
             return False
-        self.found.append(error)
+        # The last one goes on through every `with` around it, and is kept once.
+        if self.found[-1:] != [error]:
+            self.found.append(error)
         return len(self.found) < MOST_GATHERED
 
     def note(self, what: Malformed) -> None:
         self.notes.append(what)
 
-    def warn(self) -> None:
+    def warn(self, file: str = "") -> None:
         """Gives each note as a Python warning, of the line outside this package that asked for the reading."""
-        frame, level = sys._getframe(1), 2
-        while frame.f_back is not None and frame.f_globals.get("__name__", "").partition(".")[0] == __package__:
-            frame, level = frame.f_back, level + 1
+        level = _level_outside(sys._getframe(1))
         for note in self.notes:
-            warnings.warn(str(note), stacklevel=level)
+            warnings.warn(str(note.of(file)), stacklevel=level)
 
     def end(self) -> None:
         """The end of a reading: what was found is raised, the first of it, since there is no table then."""
         if self.found:
             raise self.found[0]
+
+
+def _level_outside(frame: FrameType) -> int:
+    """How far above its callee the first frame outside this package is, as warnings count it."""
+    level = 2
+    while frame.f_back is not None and str(frame.f_globals.get("__name__")).partition(".")[0] == __package__:
+        frame, level = frame.f_back, level + 1
+    return level
 
 
 class NotBuilt(Error):

@@ -2,12 +2,13 @@
 
 from __future__ import annotations
 
+import contextlib
 import pathlib
-from collections.abc import Callable, Mapping
-from typing import Optional, Union
+from collections.abc import Callable, Iterable, Iterator, Mapping
+from typing import Optional, SupportsIndex, Union
 
 from .diagram import Diagram
-from .errors import Error, Faults
+from .errors import Error, Faults, Malformed
 from .exports import blif, verilog
 from .library import MOST_CELLS
 from .network import Network
@@ -40,13 +41,15 @@ PICTURE_ENDINGS = {**DRAWN_ENDINGS, ".txt": TEXT}
 NETWORK_ENDINGS = {".cells": CELLS, **DRAWN_ENDINGS, **EXPORT_ENDINGS}
 CONVERTED_ENDINGS = {**TABLE_ENDINGS, **NETWORK_ENDINGS}
 LOGGED_ENDINGS = {**TABLE_ENDINGS, ".cells": CELLS}
+# Files of spreadsheet programs that aren't CSV.
+SPREADSHEETS = frozenset(".xls .xlsx .ods".split())
 # Endings that promise what nothing here writes, whatever format is named.
-FOREIGN_ENDINGS = frozenset(
-    ".png .jpg .jpeg .gif .bmp .tif .tiff .webp .pdf .ps .eps .html .htm .md .json .xml .xls .xlsx .ods .doc .docx .odt .aig .vhd .vhdl".split()
+FOREIGN_ENDINGS = SPREADSHEETS | frozenset(
+    ".png .jpg .jpeg .gif .bmp .tif .tiff .webp .pdf .ps .eps .html .htm .md .json .xml .doc .docx .odt .aig .vhd .vhdl".split()
 )
 
 
-class UnknownFormat(Error):
+class UnknownFormat(Error, ValueError):
     """A file's ending tells no format and none was named, or the two contradict each other."""
 
 
@@ -55,35 +58,38 @@ def names_in(endings: Mapping[str, str]) -> tuple[str, ...]:
     return tuple(dict.fromkeys(endings.values()))
 
 
-def told_by(path: pathlib.PurePath, endings: Mapping[str, str]) -> str:
-    """The format that a file's ending tells, in whatever case it is written."""
-    suffix = path.suffix.lower()
-    if suffix not in endings:
-        known, named = ", ".join(endings), ", ".join(names_in(endings))
-        raise UnknownFormat(f"its ending tells no format: known are {known}; or name one of {named}")
-    return endings[suffix]
-
-
 def read_as(path: pathlib.PurePath, named: Optional[str] = None) -> str:
     """The format to read a file in: the one that is named, or else the one that its ending tells."""
+    names = names_in(READ_ENDINGS)
     if named is None:
-        return told_by(path, READ_ENDINGS)
-    if named not in names_in(READ_ENDINGS):
-        raise UnknownFormat(f"{named} can't be read; known are {', '.join(names_in(READ_ENDINGS))}")
+        return _told_by(path, READ_ENDINGS, names, "--from")
+    if named not in names:
+        raise UnknownFormat(f"{named} can't be read; known are {', '.join(names)}")
     return named
 
 
-def written_as(path: pathlib.PurePath, named: Optional[str], endings: Mapping[str, str]) -> str:
-    """The format to write a file in. One that is named has to fit the ending, if that tells any."""
+def written_as(path: pathlib.PurePath, named: Optional[str], endings: Mapping[str, str], names: Iterable[str]) -> str:
+    """The format to write a file in, one of those named. One that is asked for has to fit the ending, if that tells any."""
     if named is None:
-        return told_by(path, endings)
+        return _told_by(path, endings, names, "--to")
     suffix = path.suffix.lower()
     told = endings.get(suffix) or CONVERTED_ENDINGS.get(suffix)
-    if told not in (None, named):
+    if told not in (None, named) and (told, named) != (TEXT, SUMMARY):
         raise UnknownFormat(f"its ending tells {told}, and {named} is asked for")
     if suffix in FOREIGN_ENDINGS:
         raise UnknownFormat(f"a {suffix} can't be written, and {named} is asked for")
     return named
+
+
+def _told_by(path: pathlib.PurePath, endings: Mapping[str, str], names: Iterable[str], option: str) -> str:
+    """The format that a file's ending tells, in whatever case it is written."""
+    suffix = path.suffix.lower()
+    if suffix in endings:
+        return endings[suffix]
+    wrong = "a format that can't be had here" if suffix in {**READ_ENDINGS, **CONVERTED_ENDINGS} else "no format"
+    advice = f"known are {', '.join(endings)}; or {option} names one of {', '.join(names)}"
+    saved = f"a {suffix} has to be saved as CSV; " if suffix in SPREADSHEETS else ""
+    raise UnknownFormat(f"its ending tells {wrong}: {saved}{advice}")
 
 
 # Reading.
@@ -98,7 +104,7 @@ def table_from(data: bytes, kind: str, faults: Optional[Faults] = None) -> Table
     return Table(*TEXT_READERS[kind](encoding.decoded(data), faults))
 
 
-def network_from(data: bytes, kind: str, faults: Optional[Faults] = None, board: int = MOST_CELLS) -> Network:
+def network_from(data: bytes, kind: str, faults: Optional[Faults] = None, board: SupportsIndex = MOST_CELLS) -> Network:
     """The same at the library. Of a network file the network is held."""
     return Network.from_file(data, board) if kind == CELLS else Network(table_from(data, kind, faults), board)
 
@@ -106,17 +112,30 @@ def network_from(data: bytes, kind: str, faults: Optional[Faults] = None, board:
 def read_table(path: pathlib.Path, named: Optional[str] = None) -> Table:
     """A file's table."""
     faults = Faults()
-    table = table_from(path.read_bytes(), read_as(path, named), faults)
-    faults.warn()
+    with _told_of(path):
+        table = table_from(path.read_bytes(), read_as(path, named), faults)
+    faults.warn(str(path))
     return table
 
 
-def read(path: pathlib.Path, named: Optional[str] = None, board: int = MOST_CELLS) -> Network:
+def read(path: pathlib.Path, named: Optional[str] = None, board: SupportsIndex = MOST_CELLS) -> Network:
     """A file's table at the library; of a network file the network is held, and its table has every row cared."""
     faults = Faults()
-    network = network_from(path.read_bytes(), read_as(path, named), faults, board)
-    faults.warn()
+    with _told_of(path):
+        network = network_from(path.read_bytes(), read_as(path, named), faults, board)
+    faults.warn(str(path))
     return network
+
+
+@contextlib.contextmanager
+def _told_of(path: pathlib.Path) -> Iterator[None]:
+    """What is wrong with a file is told with its name."""
+    try:
+        yield
+    except Malformed as error:
+        raise error.of(str(path)) from None
+    except (UnknownFormat, encoding.NotText) as error:
+        raise type(error)(f"{path}: {error}") from None
 
 
 # Writing.

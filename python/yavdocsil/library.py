@@ -11,6 +11,7 @@ import operator
 import os
 import pathlib
 import platform
+import threading
 from collections.abc import Callable, Sequence
 from typing import Any, SupportsIndex, Union
 
@@ -70,7 +71,7 @@ def path() -> pathlib.Path:
     places = [pathlib.Path(named)] if named else [INSTALLED, BUILT]
     found = next((place for place in places if place.is_file()), None)
     if found is None:
-        where = f"{VARIABLE} names {named}" if named else f"it should be {BUILT}"
+        where = f"{VARIABLE} names {named}" if named else f"it should be {INSTALLED} or {BUILT}"
         raise NotBuilt(f"the library isn't there: {where}; ./build makes it, or {VARIABLE} says where it is")
     # A bare name would be looked for elsewhere.
     return pathlib.Path(os.path.abspath(found))
@@ -130,7 +131,7 @@ def fitted(argument: str, given: SupportsIndex) -> int:
     """A number as its argument takes it. One that doesn't fit would be taken for another."""
     number = operator.index(given)
     if NUMBERS[argument](number).value != number:
-        raise ValueError(f"{number} is out of range for a {argument}")
+        raise ValueError(f"{argument}: {number} is out of range")
     return number
 
 
@@ -147,23 +148,37 @@ def call(name: str, **arguments: Any) -> int:
 
 
 class Buffers:
-    """A state and what is lent with it, all zero at first. Copied or pickled, each buffer is its bytes, so none is shared."""
+    """A state and what is lent with it, all zero at first. Copied or pickled, each buffer is its bytes, so none is shared.
+
+    Python's threads run while the library works, so whoever calls it holds `lock`.
+    """
 
     def __init__(self, board: SupportsIndex = MOST_CELLS) -> None:
-        cells = operator.index(board)
-        if not 0 <= cells <= MOST_BOARD:
-            raise ValueError(f"a board has 0 to {MOST_BOARD} cells, not {cells}")
         self.state = buffer("state", STATE_WORDS)
         self.values, self.care = buffer("values", TABLE_BYTES), buffer("care", TABLE_BYTES)
         self.work = buffer("work", WORK_BYTES)
-        self.roots, self.cells = buffer("roots", ROOTS), buffer("cells", 3 * cells)
-        self.counts = buffer("counts", 2**MOST_INPUTS)
+        self.roots, self.counts = buffer("roots", ROOTS), buffer("counts", 2**MOST_INPUTS)
+        self.take_board(board)
+        self.lock = threading.RLock()
+
+    def take_board(self, board: SupportsIndex) -> None:
+        """Lends other cells, so many and all zero; a network that is held is not in them."""
+        cells = operator.index(board)
+        if not 0 <= cells <= MOST_BOARD:
+            raise ValueError(f"a board has 0 to {MOST_BOARD} cells, not {cells}")
+        self.cells = buffer("cells", 3 * cells)
+
+    @property
+    def board(self) -> int:
+        return len(self.cells) // 3
 
     def __getstate__(self) -> dict[str, bytes]:
-        return {name: bytes(lent) for name, lent in vars(self).items()}
+        with self.lock:
+            return {name: bytes(lent) for name, lent in vars(self).items() if name in SLICES}
 
     def __setstate__(self, saved: dict[str, bytes]) -> None:
         vars(self).update((name, buffer(name, content)) for name, content in saved.items())
+        self.lock = threading.RLock()
 
     @property
     def columns(self) -> tuple[tuple[Mark, ...], ...]:
@@ -175,7 +190,8 @@ class Buffers:
 
     def call(self, name: str, **others: Any) -> int:
         """A call on these buffers, and on what is given beside them."""
-        return call(name, **{**vars(self), **others})
+        with self.lock:
+            return call(name, **{**vars(self), **others})
 
     def built_apart(self) -> Buffers:
         """The network of the table held here, in buffers of its own: what is held stays, and so does the board."""

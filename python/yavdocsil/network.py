@@ -4,16 +4,18 @@ from __future__ import annotations
 
 import copy
 import ctypes
+import functools
 import operator
 import os
 import pathlib
+from collections import Counter
 from collections.abc import Callable, Iterable, Mapping, Sequence
-from typing import Any, Optional, SupportsIndex, Union
+from typing import Any, Optional, SupportsIndex, TypeVar, Union, cast
 
 from . import bits, pictures
 from .diagram import Cell, Diagram
 from .display import many
-from .errors import Refused
+from .errors import NO_ROW, Refused
 from .exports import blif, verilog
 from .library import (
     BLOCK_BYTES, BLOCK_CELLS, COUNT, FILE_BYTES, INPUTS, MOST_CELLS, NETWORK, ORDER, OUTPUTS, STAGE, TABLE,
@@ -33,14 +35,31 @@ Row = Union[SupportsIndex, str, Mapping[str, SupportsIndex]]
 Progress = Callable[[int, int], None]
 
 
+Method = TypeVar("Method", bound=Callable[..., Any])
+
+
+def alone(method: Method) -> Method:
+    """A method that makes several calls, or reads what one leaves, with no other thread's between."""
+
+    @functools.wraps(method)
+    def held(self: Network, *arguments: Any, **named: Any) -> Any:
+        with self._lent.lock:
+            return method(self, *arguments, **named)
+
+    return cast(Method, held)
+
+
 class Network:
     """A table at the library, and its network once it is built.
 
     It is the library that builds, sifts, swaps, evaluates and logs. What is refused is raised as `Refused`, with the papers' number,
-    and changes nothing. Copies, shallow ones too, and pickles have buffers of their own.
+    and changes nothing. Copies, shallow ones too, and pickles have buffers of their own. Threads may share a network: each method has it
+    to itself, and others wait; to work at once, give each thread a copy.
     """
 
     def __init__(self, table: Table, board: SupportsIndex = MOST_CELLS) -> None:
+        if not isinstance(table, Table):
+            raise TypeError(f"a network is of a Table, not of {bits.shown(table)}; Network.from_path reads a file")
         self.inputs, self.outputs = table.inputs, table.outputs
         self._lent = Buffers(board)
         self._lent.call("load", file=buffer("file", table.to_file()))
@@ -50,13 +69,13 @@ class Network:
         """From a network file, which has no names; every row is cared."""
         self = cls.__new__(cls)
         self._lent = Buffers(board)
-        self._lent.call("read_cells", file=buffer("file", data))
+        self._lent.call("read_cells", file=buffer("file", bits.octets(data)))
         state = self._lent.state
         self.inputs, self.outputs = names_from("x", state[INPUTS]), names_from("y", state[OUTPUTS])
         return self
 
     @classmethod
-    def from_path(cls, path: Union[str, os.PathLike[str]], kind: Optional[str] = None, board: int = MOST_CELLS) -> Network:
+    def from_path(cls, path: Union[str, os.PathLike[str]], kind: Optional[str] = None, board: SupportsIndex = MOST_CELLS) -> Network:
         """From a file of any kind, told by its ending or named. Of a network file the network is held, of any other its table."""
         # It imports this module.
         from . import formats
@@ -94,20 +113,24 @@ class Network:
 
     @property
     def is_built(self) -> bool:
+        """Whether a network is held."""
         return int(self._lent.state[STAGE]) == NETWORK
 
     @property
+    @alone
     def cells(self) -> tuple[Cell, ...]:
         """The cells of the network held; none where none is."""
         held = self._lent.cells
         return tuple(Cell(i + 1, *held[3 * i : 3 * i + 3]) for i in range(self._lent.state[COUNT]))
 
     @property
+    @alone
     def roots(self) -> tuple[int, ...]:
         """Each output's reference; none where no network is held."""
         return tuple(self._lent.roots[: len(self.outputs)]) if self.is_built else ()
 
     @property
+    @alone
     def diagram(self) -> Diagram:
         """The network held, for pictures and exports; it is built where none is."""
         if not self.is_built:
@@ -115,18 +138,26 @@ class Network:
         return Diagram(self.inputs, self.outputs, self.order, self.cells, self.roots)
 
     @property
+    @alone
     def table(self) -> Table:
         """The table held, with its present care and order."""
         return Table(self._lent.columns, self.inputs, self.outputs, self.order)
 
     @property
+    @alone
     def seen(self) -> tuple[int, ...]:
         """How often each row was logged."""
         return tuple(self._lent.counts[: 2 ** len(self.inputs)])
 
+    @property
+    def board(self) -> int:
+        """The cells of the board that networks are built on."""
+        return self._lent.board
+
     def on_board(self, board: SupportsIndex) -> Network:
-        """The same table with its network built on a board of so many cells."""
-        other = Network(self.table, board)
+        """A copy, with the network built on a board of so many cells."""
+        other = copy.copy(self)
+        other._lent.take_board(board)
         other.build()
         return other
 
@@ -148,6 +179,7 @@ class Network:
         """Moves one input to its best place, and answers the cells there."""
         return self._lent.call("sift", input=self._number(variable))
 
+    @alone
     def sift_all(self, limit: SupportsIndex = NO_LIMIT, progress: Optional[Progress] = None) -> int:
         """Sifts each input once, as far as a limit of orders allows, and answers the orders tried.
 
@@ -167,10 +199,11 @@ class Network:
 
     def _most_asked(self, variables: Sequence[int]) -> int:
         """The input that most cells ask under the present order; of several the first."""
-        own = self._lent.built_apart()
-        asked = [self.order[place] for place in own.cells[: 3 * own.state[COUNT] : 3]]
-        return max(variables, key=asked.count)
+        own, order = self._lent.built_apart(), self.order
+        cells = Counter(own.cells[: 3 * own.state[COUNT] : 3])
+        return max(variables, key=lambda variable: cells[order.index(variable)])
 
+    @alone
     def sift_to_rest(self, progress: Optional[Progress] = None) -> list[int]:
         """Sifts each input once, again and again until that brings nothing, and answers the cells after each pass.
 
@@ -183,14 +216,19 @@ class Network:
             cells.append(self.count())
         return cells[1:]
 
-    def reorder(self, order: Sequence[Union[SupportsIndex, str]]) -> None:
+    @alone
+    def reorder(self, order: Iterable[Union[SupportsIndex, str]]) -> None:
         """Puts the inputs in an order, the top place's first, by exchanges of neighbours; where it is the present one, nothing changes."""
         wanted = [self._number(variable) for variable in order]
         if sorted(wanted) != list(range(len(self.inputs))):
             raise ValueError("the order has each input once")
         for place, variable in enumerate(wanted):
-            for upper in reversed(range(place, self.order.index(variable))):
-                self.swap(upper)
+            self._raise_to(place, variable)
+
+    def _raise_to(self, place: int, variable: int) -> None:
+        """Moves an input up to a place, those between down by one."""
+        for upper in reversed(range(place, self.order.index(variable))):
+            self.swap(upper)
 
     def swap(self, place: SupportsIndex) -> None:
         """Exchanges a place and the next in the order; the table is held then, and no network."""
@@ -231,6 +269,7 @@ class Network:
 
     # The network, written.
 
+    @alone
     def to_file(self) -> bytes:
         """The network file of the network held."""
         file = buffer("file", FILE_BYTES)
@@ -265,7 +304,7 @@ class Network:
             raise TypeError("rows are a list; one row alone is a list of one")
         numbers = [_row_number(row, self.inputs) for row in rows]
         if not all(0 <= number <= MOST_ROW for number in numbers):
-            raise Refused(8)
+            raise Refused(NO_ROW)
         return buffer("rows", numbers)
 
 

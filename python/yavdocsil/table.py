@@ -6,21 +6,20 @@ import os
 import pathlib
 from collections.abc import Callable, Iterable, Sequence
 from dataclasses import dataclass, replace
-from typing import Any, Optional, Union
+from typing import Any, Optional, SupportsIndex, Union
 
 from . import bits
 from .display import harmless, many
 from .errors import Faults
 from .reading import MARKS, MOST_INPUTS, MOST_OUTPUTS, Content, Mark, blif, drawing, names_from, pla, sheet, table_file
-from .reading.words import BYTE_ORDER_MARK
 
 
 @dataclass(frozen=True, repr=False)
 class Table:
     """`columns[j][r]` is output j's mark in row r; in a row number input 0 is the most significant bit.
 
-    `order` has the input of each place, the top place first. Other sequences and other kinds of integers may be given, NumPy's too: what
-    is held are tuples and plain integers, so tables can be compared and be keys.
+    `order` has the input of each place, the top place first. Whatever sequences and kinds of integers are given, NumPy's too, what is held
+    are tuples and plain integers, so tables can be compared and be keys.
     """
 
     columns: tuple[tuple[Mark, ...], ...]
@@ -38,9 +37,10 @@ class Table:
             raise ValueError(f"a table has 1 to {MOST_OUTPUTS} outputs, not {len(self.columns)}")
         if len(self.outputs) != len(self.columns):
             raise ValueError("every output has one name")
-        if any(len(column) != 2 ** len(self.inputs) for column in self.columns):
-            raise ValueError(f"every output has {2 ** len(self.inputs)} rows")
-        self._hold("order", _order(self.order, len(self.inputs)))
+        uneven = next((len(column) for column in self.columns if len(column) != 2 ** len(self.inputs)), None)
+        if uneven is not None:
+            raise ValueError(f"with {many(len(self.inputs), 'input')} every output has {many(2 ** len(self.inputs), 'row')}, not {uneven}")
+        self._hold("order", _order(self.order, self.inputs))
 
     def _hold(self, field: str, content: tuple[Any, ...]) -> None:
         # A table is frozen, and this its making.
@@ -61,17 +61,17 @@ class Table:
         """How many marks are not free."""
         return sum(mark is not None for column in self.columns for mark in column)
 
-    def reordered(self, order: Sequence[int]) -> Table:
-        """The same table in another order of the places."""
-        return replace(self, order=tuple(order))
+    def reordered(self, order: Iterable[Union[SupportsIndex, str]]) -> Table:
+        """The same table in another order of the places, by the inputs' numbers or names."""
+        return replace(self, order=_order(order, self.inputs))
 
     @classmethod
     def from_rows(
         cls,
-        rows: Iterable[Union[Mark, Iterable[Union[str, Mark]]]],
+        rows: Iterable[Union[None, SupportsIndex, Iterable[Union[None, str, SupportsIndex]]]],
         inputs: Optional[Sequence[str]] = None,
         outputs: Optional[Sequence[str]] = None,
-        order: Optional[Sequence[int]] = None,
+        order: Optional[Iterable[Union[SupportsIndex, str]]] = None,
     ) -> Table:
         """From each row's marks, one for each output: `Table.from_rows(["0", "1", "1", "0"])` is exclusive-or.
 
@@ -80,14 +80,18 @@ class Table:
         """
         marks = [_row(number, row) for number, row in enumerate(rows)]
         n = max(len(marks).bit_length() - 1, 0)
-        if len(marks) != 2**n or any(len(row) != len(marks[0]) for row in marks):
-            raise ValueError("a table has a power of two of rows, each with a mark for every output")
+        if len(marks) != 2**n:
+            raise ValueError(f"a table has a power of two of rows, not {len(marks)}")
+        uneven = next((number for number, row in enumerate(marks) if len(row) != len(marks[0])), None)
+        if uneven is not None:
+            raise ValueError(f"every row has a mark for each output: row 0 has {len(marks[0])}, and row {uneven} {len(marks[uneven])}")
         columns = tuple(zip(*marks))
+        named = names_from("x", n) if inputs is None else _names(inputs)
         return cls(
             columns,
-            names_from("x", n) if inputs is None else tuple(inputs),
+            named,
             names_from("y", len(columns)) if outputs is None else tuple(outputs),
-            tuple(range(n)) if order is None else tuple(order),
+            tuple(range(n)) if order is None else _order(order, named),
         )
 
     # Texts and files, as docs/FORMATS.md has them.
@@ -106,6 +110,7 @@ class Table:
         return cls._from_text(drawing.read, text)
 
     def to_drawing(self) -> str:
+        """The table as a drawing. As for all that follow, ValueError is raised where a name can't stand there."""
         return drawing.write(self)
 
     @classmethod
@@ -114,6 +119,7 @@ class Table:
         return cls._from_text(pla.read, text)
 
     def to_pla(self) -> str:
+        """The table as a PLA of type fr."""
         return pla.write(self)
 
     @classmethod
@@ -122,6 +128,7 @@ class Table:
         return cls._from_text(sheet.read, text)
 
     def to_csv(self) -> str:
+        """The table as a spreadsheet, with lines that end in CR LF."""
         return sheet.write(self)
 
     @classmethod
@@ -132,17 +139,20 @@ class Table:
     @classmethod
     def _from_text(cls, read: Callable[[str, Optional[Faults]], Content], text: str) -> Table:
         """What a reader takes from a text. What isn't as it should be in it is warned of."""
+        if not isinstance(text, str):
+            raise TypeError(f"a text is wanted, not {bits.shown(text)}; from_path reads a file")
         faults = Faults()
-        table = cls(*read(text.removeprefix(BYTE_ORDER_MARK), faults))
+        table = cls(*read(text, faults))
         faults.warn()
         return table
 
     @classmethod
     def from_file(cls, data: bytes) -> Table:
         """From a table file, which has no names."""
-        return cls(*table_file.read(data))
+        return cls(*table_file.read(bits.octets(data)))
 
     def to_file(self) -> bytes:
+        """The table file, which has no names."""
         return table_file.write(self)
 
 
@@ -193,10 +203,17 @@ def _names(given: Iterable[Any]) -> tuple[str, ...]:
     return names
 
 
-def _order(given: Iterable[Any], n: int) -> tuple[int, ...]:
-    """The input of each place, by its number."""
-    held = tuple(map(bits.integer, given))
+def _order(given: Iterable[Any], inputs: Sequence[str]) -> tuple[int, ...]:
+    """The input of each place, from its number or its name."""
+    held = [_input_of(each, inputs) for each in given]
     order = tuple(number for number in held if number is not None)
-    if len(order) != len(held) or sorted(order) != list(range(n)):
+    if len(order) != len(held) or sorted(order) != list(range(len(inputs))):
         raise ValueError("the order has each input once")
     return order
+
+
+def _input_of(given: Any, inputs: Sequence[str]) -> Optional[int]:
+    """An input's number; None for whatever is no input."""
+    if isinstance(given, str):
+        return inputs.index(given) if given in inputs else None
+    return bits.integer(given)

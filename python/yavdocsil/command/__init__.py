@@ -22,7 +22,8 @@ def main(words: Optional[Sequence[str]] = None) -> int:
         if isinstance(stream, io.TextIOWrapper):
             stream.reconfigure(errors="backslashreplace")
     try:
-        return done(words)
+        status = done(words)
+        flushed()
     except BrokenPipeError:
         # Who reads has read enough, and is told nothing, as other filters do.
         status = BROKEN_PIPE
@@ -37,8 +38,10 @@ def main(words: Optional[Sequence[str]] = None) -> int:
 
 def done(words: Optional[Sequence[str]]) -> int:
     """The same, with errors raised, each told with the file that it is about."""
-    given = parser().parse_args(words)
+    try:
+        given = parser().parse_args(words)
+    except SystemExit as end:
+        # Help and version are told, or what is wrong with the words.
+        return int(end.code or 0)
     with about(called(given.file, "input")):
-        status = given.does(given)
-    flushed()
-    return int(status or 0)
+        return int(given.does(given) or 0)

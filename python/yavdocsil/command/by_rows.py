@@ -12,7 +12,7 @@ from ..reading.rows import bits_of
 from ..table import Table
 from .files import STANDARD, BadWord, kind_beside, save, tell
 from .networks import in_order
-from .options import on_board, ordered, prepared, rows_given, sifted
+from .options import check_read_once, on_board, ordered, prepared, rows_given, sifted
 from .telling import marks_of
 
 SEEN = "seen"
@@ -20,6 +20,7 @@ SEEN = "seen"
 
 def evaluate(given: argparse.Namespace) -> None:
     """Tells the outputs at rows, and which of them were free: there the drawing says nothing, and the filling has chosen."""
+    check_read_once(given)
     network = prepared(given)
     lists = rows_given(given, network.inputs)
     rows = [row for each in lists for row in each] if lists else list(range(2 ** len(network.inputs)))
@@ -60,6 +61,7 @@ def row_line(row: int, inputs: Sequence[str], said: Sequence[str]) -> str:
 
 def log(given: argparse.Namespace) -> None:
     """Logs the rows and tells what that comes to. The order is the one given; what is to be sifted is sifted under the new care."""
+    check_read_once(given)
     kind = kind_beside(given, formats.LOGGED_ENDINGS)
     network = ordered(given)
     logs = rows_given(given, network.inputs)

@@ -9,14 +9,8 @@ from collections.abc import Iterable
 from shlex import quote
 from typing import NamedTuple
 
-from ..errors import Error
-
 # What the help calls a file, whatever reads it.
 FILES = ("FILE", "OUT")
-
-
-class UnknownShell(Error):
-    """There is no completion script for such a shell."""
 
 
 class Argument(NamedTuple):
@@ -40,10 +34,8 @@ class Word(NamedTuple):
     places: list[Argument]
 
 
-def script(shell: str, parser: argparse.ArgumentParser, program: str = "yav") -> str:
+def script(shell: str, parser: argparse.ArgumentParser, program: str) -> str:
     """The completion script of a shell for a program that has this parser."""
-    if shell not in SHELLS:
-        raise UnknownShell(f"there is no completion for {shell}, but for {', '.join(SHELLS)}")
     return SHELLS[shell](words_of(parser), program)
 
 

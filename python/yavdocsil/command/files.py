@@ -1,4 +1,4 @@
-"""Files of the command, standard input and output among them: what is read and written, and errors told with the file that they are about."""
+"""Files of the command, standard streams among them: what is read and written, and errors told with the file that they are about."""
 
 from __future__ import annotations
 
@@ -17,10 +17,15 @@ from ..network import Network
 
 PROGRAM = "yav"
 STANDARD = pathlib.Path("-")
+CLOSED = "it is closed"
 
 
 class BadWord(Error):
     """A word of the command line doesn't fit the table, or the other words."""
+
+
+class NoStream(Error):
+    """A standard stream can't be used as it is asked for."""
 
 
 class InFile(Error):
@@ -28,6 +33,14 @@ class InFile(Error):
 
 
 # What is told of files.
+
+
+def path_of(word: str) -> pathlib.Path:
+    """The file that a word names. `-` alone is a standard stream, and `./-` a file of that name."""
+    if not word:
+        raise argparse.ArgumentTypeError("the file's name is empty")
+    path = pathlib.Path(word)
+    return path.absolute() if path == STANDARD and word != str(STANDARD) else path
 
 
 def called(path: pathlib.Path, standard: str) -> str:
@@ -55,20 +68,21 @@ def told(error: Exception, file: str) -> str:
 
 
 def warn_of(error: object) -> None:
-    """Tells something on standard error, in one line."""
+    """Tells something on standard error, in one line. Where that can't be written, what is done goes on all the same."""
     if sys.stderr is not None:
-        print(f"{PROGRAM}: {harmless(str(error))}", file=sys.stderr)
+        with contextlib.suppress(OSError):
+            print(f"{PROGRAM}: {harmless(str(error))}", file=sys.stderr, flush=True)
 
 
 # Reading.
 
 
-def content_of(path: pathlib.Path) -> bytes:
+def bytes_of(path: pathlib.Path) -> bytes:
     """A file's bytes, or all that standard input has."""
     if path != STANDARD:
         return path.read_bytes()
     if sys.stdin is None:
-        raise BadWord("it is closed")
+        raise NoStream(CLOSED)
     return sys.stdin.buffer.read()
 
 
@@ -76,18 +90,19 @@ def kind_in(given: argparse.Namespace) -> str:
     """The format of the file to read."""
     path, named = given.file, given.read_as
     if path == STANDARD and named is None:
-        raise BadWord(f"it has no ending that tells its format; --from names one of {', '.join(formats.names_in(formats.READ_ENDINGS))}")
+        raise NoStream(f"it has no ending that tells its format; --from names one of {', '.join(formats.names_in(formats.READ_ENDINGS))}")
     return formats.read_as(path, named)
 
 
 def network_in(given: argparse.Namespace, faults: Faults) -> Network:
     """The network of the file that a command begins with; what is odd about the file is told."""
     file = called(given.file, "input")
-    with about(file):
-        network = formats.network_from(content_of(given.file), kind_in(given), faults)
-    for note in faults.notes:
-        warn_of(f"{told(note, file)} (it is taken as it is)")
-    return network
+    try:
+        with about(file):
+            return formats.network_from(bytes_of(given.file), kind_in(given), faults)
+    finally:
+        for note in faults.notes:
+            warn_of(f"{told(note, file)} (it is taken as it is)")
 
 
 def name_of(given: argparse.Namespace) -> str:
@@ -101,7 +116,7 @@ def name_of(given: argparse.Namespace) -> str:
 def output() -> BinaryIO:
     """Standard output, for bytes."""
     if sys.stdout is None:
-        raise BadWord("it is closed")
+        raise NoStream(CLOSED)
     sys.stdout.flush()
     return sys.stdout.buffer
 
@@ -115,32 +130,43 @@ def flushed() -> None:
 
 def let_go() -> None:
     """Gives up what can't be written any more, so that nothing is said of it when the program ends."""
-    try:
-        if sys.stdout is not None:
-            sys.stdout.flush()
-    except OSError:
-        os.dup2(os.open(os.devnull, os.O_WRONLY), sys.stdout.fileno())
+    for stream in (sys.stdout, sys.stderr):
+        try:
+            if stream is not None:
+                stream.flush()
+        except OSError:
+            nowhere = os.open(os.devnull, os.O_WRONLY)
+            os.dup2(nowhere, stream.fileno())
+            os.close(nowhere)
 
 
 def tell(*lines: str, beside: bool = False) -> None:
     """Tells lines to a person, on standard output, or on standard error where a file is written there."""
-    stream = sys.stderr if beside else sys.stdout
-    if stream is None:
-        raise InFile(f"standard {'error' if beside else 'output'}: it is closed")
-    with about("standard output"):
-        print(*map(harmless, lines), sep="\n", file=stream)
+    name, stream = ("standard error", sys.stderr) if beside else ("standard output", sys.stdout)
+    with about(name):
+        if stream is None:
+            raise NoStream(CLOSED)
+        print(*(harmless(line).rstrip() for line in lines), sep="\n", file=stream)
 
 
 def kind_out(given: argparse.Namespace, endings: Mapping[str, str], usual: Optional[str] = None) -> str:
     """The format to write, by the file's name or an option's. It is asked before the work is done."""
     out = given.out or STANDARD
     with about(called(out, "output")):
-        if out != STANDARD:
-            return formats.written_as(out, given.write_as, endings)
-        kind: Optional[str] = given.write_as or usual
-        if kind is None:
-            raise BadWord(f"it has no ending that tells a format; --to names one of {', '.join(formats.names_in(endings))}")
+        if out == STANDARD:
+            kind: Optional[str] = given.write_as or usual
+            if kind is None:
+                raise NoStream(f"it has no ending that tells a format; --to names one of {', '.join(given.formats)}")
+            return kind
+        kind = formats.written_as(out, given.write_as, endings, given.formats)
+        check_not_lost(given.file, out, kind)
         return kind
+
+
+def check_not_lost(read: pathlib.Path, out: pathlib.Path, kind: str) -> None:
+    """Raises where a text would be written over the file that is read: what else stands in that, or the table itself, would be lost."""
+    if kind not in formats.BINARY and read != STANDARD and out.exists() and read.exists() and out.samefile(read):
+        raise BadWord("it is the file that is read, and what stands in it would be lost; name another")
 
 
 def kind_beside(given: argparse.Namespace, endings: Mapping[str, str]) -> Optional[str]:
@@ -148,7 +174,7 @@ def kind_beside(given: argparse.Namespace, endings: Mapping[str, str]) -> Option
     if given.out is not None:
         return kind_out(given, endings)
     if given.write_as is not None:
-        raise BadWord(f"--to {given.write_as}: there is no file to write; -o names one")
+        raise InFile(f"--to {given.write_as}: there is no file to write; -o names one")
     return None
 
 
@@ -160,7 +186,7 @@ def write_out(data: bytes, kind: str, out: Optional[pathlib.Path]) -> None:
             return
         stream = output()
         if kind in formats.BINARY and stream.isatty():
-            raise BadWord("it is a terminal, and this is no text; name a file, or write it on into one")
+            raise NoStream("it is a terminal, and this is no text; name a file, or write it on into one")
         stream.write(data)
         stream.flush()
 

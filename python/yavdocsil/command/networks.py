@@ -17,6 +17,8 @@ from .options import prepared
 
 PICTURES = (formats.SVG, formats.DOT, formats.TEXT, formats.SUMMARY)
 EXPORTS = (formats.BLIF, formats.VERILOG)
+# No table has such a place.
+NO_PLACE = 10**9
 
 
 def convert(given: argparse.Namespace) -> None:
@@ -35,10 +37,10 @@ def show(given: argparse.Namespace) -> None:
     diagram = prepared(given).diagram
     if given.shown:
         diagram = diagram.only(given.shown)
-    on_terminal = given.out in (None, STANDARD)
-    width = shutil.get_terminal_size().columns if on_terminal else formats.USUAL_WIDTH
+    to_output = given.out in (None, STANDARD)
+    width = shutil.get_terminal_size().columns if to_output else formats.USUAL_WIDTH
     picture = formats.drawn(diagram, kind, name_of(given), width)
-    if on_terminal and kind in formats.LINE_WRITERS:
+    if to_output and kind in formats.LINE_WRITERS:
         tell(*picture.splitlines())
     else:
         write_out(formats.encoded(picture), kind, given.out)
@@ -101,7 +103,9 @@ def swap_at(word: str, network: Network) -> None:
 def place_of(word: str, network: Network) -> int:
     """The upper one of two neighbouring places, from its number or from the names of both inputs with a comma between."""
     if word.isascii() and word.isdigit():
-        return int(word)
+        # However long a number is, it is refused as one that is merely too large.
+        digits = word.lstrip("0") or "0"
+        return int(digits) if len(digits) < len(str(NO_PLACE)) else NO_PLACE
     names = [network.inputs[number] for number in network.order]
     for place, (upper, lower) in enumerate(zip(names, names[1:])):
         if word in (f"{upper},{lower}", f"{lower},{upper}"):

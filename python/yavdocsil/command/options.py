@@ -4,24 +4,22 @@ from __future__ import annotations
 
 import argparse
 import contextlib
-import pathlib
 import sys
 from collections.abc import Callable, Iterable, Iterator, Mapping, Sequence
 from typing import Optional
 
 from .. import formats
+from ..display import many
 from ..errors import Faults
 from ..library import MOST_BOARD
-from ..network import NO_LIMIT, Network
+from ..network import NO_LIMIT, Network, Progress
 from ..reading import encoding, rows
-from .files import STANDARD, BadWord, InFile, about, called, content_of, network_in, warn_of
+from .files import STANDARD, BadWord, InFile, about, bytes_of, called, network_in, path_of, warn_of
 
 # A pass of fewer inputs is over before a line could be read.
 LONG_PASS = 8
 # How far to sift: a pass under a limit of orders, or passes until one brings nothing.
 TO_REST = -1
-
-Progress = Callable[[int, int], None]
 
 
 # The options.
@@ -29,7 +27,7 @@ Progress = Callable[[int, int], None]
 
 def with_file(parser: argparse.ArgumentParser) -> None:
     parser.add_argument(
-        "file", metavar="FILE", type=pathlib.Path, help="a drawing, PLA, CSV, BLIF, table file or network file; - for standard input",
+        "file", metavar="FILE", type=path_of, help="a drawing, PLA, CSV, BLIF, table file or network file; - for standard input",
     )
     parser.add_argument(
         "--from", dest="read_as", choices=formats.names_in(formats.READ_ENDINGS), help="the file's format, if its ending doesn't tell",
@@ -54,21 +52,21 @@ def with_order(parser: argparse.ArgumentParser) -> None:
 def with_board(parser: argparse.ArgumentParser) -> None:
     parser.add_argument(
         "--board", metavar="N", type=number_to(MOST_BOARD),
-        help="build the network on a board of N cells; one that takes more is refused, with 23",
+        help="the cells of the board; a network that takes more is refused, with 23",
     )
 
 
 def with_rows(parser: argparse.ArgumentParser, without: str) -> None:
     parser.add_argument("rows", metavar="ROW", nargs="*", help=f"a row's bits, input 0 first; {without}")
     parser.add_argument(
-        "--rows", dest="files", metavar="FILE", type=pathlib.Path, action="append", default=[],
+        "--rows", dest="files", metavar="FILE", type=path_of, action="append", default=[],
         help="a file with a row a line, - for standard input; several are taken one after the other",
     )
 
 
 def with_out(parser: argparse.ArgumentParser, otherwise: str) -> None:
     parser.add_argument(
-        "-o", dest="out", metavar="OUT", type=pathlib.Path,
+        "-o", dest="out", metavar="OUT", type=path_of,
         help=f"the file to write, its format by the ending, - for standard output; {otherwise}",
     )
 
@@ -80,6 +78,7 @@ def with_format(parser: argparse.ArgumentParser, endings: Mapping[str, str], fla
     for name in flags:
         group.add_argument(f"--{name}", dest="write_as", action="store_const", const=name, help=f"the same as --to {name}")
     group.add_argument("--to", dest="write_as", choices=tuple(names), help="the format to write, if no ending tells")
+    parser.set_defaults(formats=tuple(names))
 
 
 def number_to(most: int) -> Callable[[str], int]:
@@ -105,15 +104,16 @@ def ordered(given: argparse.Namespace, faults: Optional[Faults] = None) -> Netwo
     """The file's network, in the order given."""
     network = network_in(given, faults or Faults())
     if given.order is not None:
-        network.reorder(order_of(given.order, network.inputs))
+        network.reorder(order_named(given.order, network.inputs))
     return network
 
 
-def order_of(text: str, inputs: Sequence[str]) -> list[str]:
-    """The inputs that an order names. Commas are between them, or blanks, since a name may have a comma in it."""
-    names = text.split()
-    if not set(names) <= set(inputs):
-        names = text.replace(",", " ").split()
+def order_named(text: str, inputs: Sequence[str]) -> list[str]:
+    """The inputs that an order names. Commas are between them, or blanks, since a name may have either in it."""
+    names = text.replace(",", " ").split()
+    for read in ([name.strip() for name in text.split(",")], text.split()):
+        if sorted(read) == sorted(inputs):
+            return read
     wrong = [f"there is no input {name}" for name in dict.fromkeys(names) if name not in inputs]
     wrong += [f"{name} stands more than once" for name in inputs if names.count(name) > 1]
     missing = [name for name in inputs if name not in names]
@@ -135,7 +135,8 @@ def sifted(network: Network, given: argparse.Namespace) -> Network:
             else:
                 network.sift_all(given.limit, progress)
     if given.limit == TO_REST:
-        warn_of(f"sifted to rest in {len(passes)} pass{'' if len(passes) == 1 else 'es'}: {', '.join(map(str, passes))} cells")
+        cells = ", ".join([*map(str, passes[:-1]), many(passes[-1], "cell")])
+        warn_of(f"sifted to rest in {len(passes)} pass{'' if len(passes) == 1 else 'es'}: {cells}")
     return network
 
 
@@ -157,12 +158,16 @@ def on_board(network: Network, given: argparse.Namespace) -> Network:
     return network if given.board is None else network.on_board(given.board)
 
 
+def check_read_once(given: argparse.Namespace) -> None:
+    """Raises where standard input is to be read twice. It is asked before anything is read."""
+    if [given.file, *given.files].count(STANDARD) > 1:
+        raise InFile("standard input: it can be read only once, and - names it twice")
+
+
 def rows_given(given: argparse.Namespace, inputs: Sequence[str]) -> list[list[int]]:
     """A list of rows for the command line, if some stand there, and one for each file."""
     lists = [[rows.row_of(word, inputs) for word in given.rows]] if given.rows else []
-    if [given.file, *given.files].count(STANDARD) > 1:
-        raise InFile("standard input: it can be read only once, and - names it twice")
     for path in given.files:
         with about(called(path, "input")):
-            lists.append(rows.read(encoding.decoded(content_of(path)), inputs))
+            lists.append(rows.read(encoding.decoded(bytes_of(path)), inputs))
     return lists

@@ -17,17 +17,25 @@ def write(diagram: Diagram, name: str = "network") -> str:
         f".model {name if fits(name) else names.plain(name)}",
         " ".join([".inputs", *called.inputs]),
         " ".join([".outputs", *called.outputs]),
+        *_places(diagram, called),
     ]
-    for cell in diagram.cells:
-        lines += _selector(cell, called.inputs[diagram.order[cell.place]], called)
-    for output, root in zip(called.outputs, diagram.roots):
-        lines += _output(output, root, called)
+    lines += [line for cell in diagram.cells for line in _selector(cell, called.inputs[diagram.order[cell.place]], called)]
+    lines += [line for output, root in zip(called.outputs, diagram.roots) for line in _output(output, root, called)]
     return "\n".join([*lines, ".end", ""])
 
 
+def _places(diagram: Diagram, called: Names) -> list[str]:
+    """The comment that names the places, as it is read here again; none where the order is that of the inputs."""
+    natural = list(diagram.order) == sorted(diagram.order)
+    return [] if natural else [" ".join(["# places", *(called.inputs[number] for number in diagram.order)])]
+
+
 def fits(name: str) -> bool:
-    """Whether BLIF takes a name: printable ASCII without what comments, line ends and pins use, and not begun as a command is."""
-    return re.fullmatch(r"[!-~]+", name) is not None and not name.startswith(".") and not set(name) & set("#\\=")
+    """Whether BLIF takes a name: printable ASCII without what comments, line ends and pins use, not begun as a command is, nor `$`.
+
+    Yosys takes that one for the beginning of a name of its own.
+    """
+    return name != "$" and re.fullmatch(r"[!-~]+", name) is not None and not name.startswith(".") and not set(name) & set("#\\=")
 
 
 def _selector(cell: Cell, select: str, called: Names) -> list[str]:

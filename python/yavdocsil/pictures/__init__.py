@@ -11,7 +11,7 @@ from ..display import harmless
 MOST_READABLE = 200
 
 # Of lines and names, of 0-edges, of names of inputs that no cell asks, of the legend, and of the dots that invert.
-INK, SHADE, FAINT, LEGEND_INK, DOT = "#1b1b1f", "#2f4f86", "#8a8a92", "#55555c", "#b01e1e"
+INK, SHADE, FAINT, LEGEND_INK, DOT_INK = "#1b1b1f", "#2f4f86", "#8a8a92", "#55555c", "#b01e1e"
 
 
 def shown(diagram: Diagram) -> Diagram:

@@ -1,11 +1,11 @@
-"""A diagram as a DOT file for graphviz, in the look of the SVG picture.
+"""A diagram as a DOT_INK file for graphviz, in the look of the SVG picture.
 
 There is a rank for each place; 0-edges are dashed, and edges that invert end in a dot.
 """
 
 from __future__ import annotations
 
-from . import DOT, FAINT, INK, LEGEND_INK, SHADE, escaped, shown
+from . import DOT_INK, FAINT, INK, LEGEND_INK, SHADE, escaped, shown
 from ..diagram import Diagram, cell_of, is_constant, is_inverted
 from ..display import harmless
 
@@ -17,17 +17,17 @@ SETTINGS = (
 )
 CELL_LOOK = 'shape=box, style="rounded,filled", fillcolor=white'
 LOW_LOOK = f'style=dashed, color="{SHADE}"'
-DOT_LOOK = f'arrowhead=dot, arrowsize=0.6, fillcolor="{DOT}"'
+DOT_LOOK = f'arrowhead=dot, arrowsize=0.6, fillcolor="{DOT_INK}"'
 SMALL = f'point-size="9" color="{LEGEND_INK}"'
 LEGEND = (
     f'<font {SMALL}><font color="{INK}">\u2500\u2500\u2500</font> 1-edge   '
-    f'<font color="{SHADE}">\u254c\u254c\u254c</font> 0-edge   <font color="{DOT}">\u25cf</font> dot inverts</font>'
+    f'<font color="{SHADE}">\u254c\u254c\u254c</font> 0-edge   <font color="{DOT_INK}">\u25cf</font> dot inverts</font>'
 )
 LINE_END = '<br align="left"/>'
 
 
 def write(diagram: Diagram, title: str = "") -> str:
-    """The graph as the text of a DOT file."""
+    """The graph as the text of a DOT_INK file."""
     diagram = shown(diagram)
     parts = (_roots, _places, _constants, _levels, _edges)
     lines = [*SETTINGS, _label(diagram, title), *(line for part in parts for line in part(diagram))]

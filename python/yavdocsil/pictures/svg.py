@@ -5,7 +5,7 @@ Rows are the places from top to bottom, each labelled with its input. A 1-edge i
 
 from __future__ import annotations
 
-from . import DOT, FAINT, INK, LEGEND_INK, SHADE, escaped, layout, shown
+from . import DOT_INK, FAINT, INK, LEGEND_INK, SHADE, escaped, layout, shown
 from ..diagram import Diagram, cell_of, is_constant, is_inverted
 from ..display import harmless
 from .layout.parts import (
@@ -104,7 +104,7 @@ def _legend(height: float) -> list[str]:
         f'<g class="legend" font-size="11" fill="{LEGEND_INK}">'
         f'<line x1="14" x2="42" {line} stroke="{INK}"/><text x="48" y="{_number(y)}">1-edge</text>'
         f'<line x1="106" x2="134" {line} stroke="{SHADE}" stroke-dasharray="5 3"/><text x="140" y="{_number(y)}">0-edge</text>'
-        f'<line x1="198" x2="226" {line} stroke="{INK}"/><circle cx="219" cy="{_number(y - 4)}" r="{DOT_RADIUS}" fill="{DOT}"/>'
+        f'<line x1="198" x2="226" {line} stroke="{INK}"/><circle cx="219" cy="{_number(y - 4)}" r="{DOT_RADIUS}" fill="{DOT_INK}"/>'
         f'<text x="232" y="{_number(y)}">dot inverts</text></g>'
     ]
 
@@ -173,7 +173,7 @@ def _edge(edge: Edge) -> str:
     drawn = _line(edge.kind, edge.source, edge.reference, path)
     if edge.inverted:
         x, y = edge.path[-1][-1]
-        drawn += f'<circle class="inverted" cx="{_number(x)}" cy="{_number(y - DOT_ABOVE)}" r="{DOT_RADIUS}" fill="{DOT}"/>'
+        drawn += f'<circle class="inverted" cx="{_number(x)}" cy="{_number(y - DOT_ABOVE)}" r="{DOT_RADIUS}" fill="{DOT_INK}"/>'
     return drawn
 
 

@@ -1,5 +1,5 @@
-"""Where tables are read and written: drawings, PLAs, spreadsheets, BLIF and table files. Here is what a table consists of, for all of them,
-and the limits of it."""
+"""Where tables are read, and all but BLIF written: drawings, PLAs, spreadsheets, BLIF and table files. Here is what a table consists of,
+for all of them, and the limits of it."""
 
 from __future__ import annotations
 

@@ -10,7 +10,7 @@ from ..errors import Faults, Malformed
 from .directives import argument, content_of, in_sequence, noted_places
 from .logic import Cover, Logic
 from .row_sets import marks_of, rows_where
-from .words import BLANKED, Word, check_distinct, order_of, quoted, second_places, split_lines, words_of
+from .words import BLANKED, Word, check_distinct, order_of, shortened, second_places, split_lines, words_of
 
 GOES_ON = "\\"
 INPUT_MARKS, OUTPUT_MARKS = "01-", ("0", "1")
@@ -51,6 +51,8 @@ class _Reader:
         self.main, self.free = Logic(), Logic()
         self.logic = self.main
         self.cover: Optional[Cover] = None
+        # Whether cubes are below a directive that isn't taken, and whether there was any such, which may have driven signals.
+        self.skips, self.misses = False, False
         self.once: dict[str, Word] = {}
         self.places: list[Word] = []
         self.order: tuple[int, ...] = ()
@@ -99,13 +101,13 @@ class _Reader:
 
     def _take_directive(self, words: list[Word]) -> None:
         name = words[0].text
-        self.cover = None
+        self.cover, self.skips = None, name not in TAKEN and name not in SKIPPED
+        self.misses |= self.skips
         if name in TAKEN:
             TAKEN[name](self, words)
-        elif name in NOT_TAKEN:
-            raise words[0].wrong(f"{name} is not taken here: {NOT_TAKEN[name]}")
-        elif name not in SKIPPED:
-            raise words[0].wrong(f"{quoted(name)} is not taken here: what is read is one combinational model of .names")
+        elif self.skips:
+            reason = NOT_TAKEN.get(name, "what is read is one combinational model of .names")
+            raise words[0].wrong(f"{shortened(name)} is not taken here: {reason}")
 
     def _take_once(self, words: list[Word]) -> None:
         word = words[0]
@@ -125,7 +127,7 @@ class _Reader:
         if not reads:
             raise driven.wrong(".names takes the signals that are read, if any, and the one that is driven")
         self.cover = Cover(reads[1:], driven)
-        name, known = quoted(driven.text), self.logic.covers.get(driven.text)
+        name, known = shortened(driven.text), self.logic.covers.get(driven.text)
         if known:
             raise driven.wrong(f"{name} is driven twice, in lines {known.driven.line} and {driven.line}")
         if driven.text in self.logic.inputs:
@@ -143,7 +145,7 @@ class _Reader:
         before = list(held.values())
         held.update((name.text, name) for name in names if name.text not in held)
         check_distinct(kind, [*before, *names])
-        if len(held) > most:
+        if names and len(held) > most:
             raise names[max(most - len(before), 0)].wrong(f"there are more than {most} {kind}s")
         if kind == "input":
             self._check_undriven(names)
@@ -151,16 +153,14 @@ class _Reader:
     def _take_free_ends(self, kind: str, names: list[Word], known: Collection[str]) -> None:
         for name in names:
             if name.text not in known:
-                raise name.wrong(f"there is no {kind} {quoted(name.text)}")
+                raise name.wrong(f"there is no {kind} {shortened(name.text)}")
         check_distinct(kind, names)
-        if kind == "output":
-            self.free.outputs.update((name.text, name) for name in names)
 
     def _check_undriven(self, inputs: list[Word]) -> None:
         for name in inputs:
             if name.text in self.main.covers:
                 line = self.main.covers[name.text].driven.line
-                raise name.wrong(f"{quoted(name.text)} is driven in line {line}, so it can't be an input")
+                raise name.wrong(f"{shortened(name.text)} is driven in line {line}, so it can't be an input")
 
     def _take_exdc(self, words: list[Word]) -> None:
         self._take_once(words)
@@ -175,6 +175,8 @@ class _Reader:
     # Cubes.
 
     def _take_cube(self, words: list[Word]) -> None:
+        if self.skips:
+            return
         if self.cover is None:
             raise words[0].wrong("this is no directive, and no cube below .names")
         width = len(self.cover.reads)
@@ -196,8 +198,8 @@ class _Reader:
         if not self.main.outputs:
             with self.faults:
                 raise Malformed("there are no outputs", 1)
-        for logic in (self.main, self.free):
-            logic.check(self.faults)
+        self.main.check(self.faults, self.misses)
+        self.free.check(self.faults, self.misses, " behind .exdc")
         with self.faults:
             self.order = order_of(self.places, tuple(self.main.inputs)) if self.places else tuple(range(len(self.main.inputs)))
 

@@ -19,6 +19,8 @@ from .words import BAR, BARRED, Word, row_named, words_of
 INPUT_MARKS, OUTPUT_MARKS = "01-2", "01-~234"
 OTHER_MARKS = str.maketrans("234", "-01")
 A_MARK = re.compile(r"[^\s|]")
+# What stands before the output part where there are no inputs, behind the blanks that begin a line.
+NO_INPUTS = r"(?:\|\s*)?"
 # Rows are collected by pieces of the output part, of so many marks: there are few pieces, and there may be as many parts as cubes.
 PIECE = 4
 
@@ -115,12 +117,13 @@ def _plain_form(n: int, sizes: Sequence[int]) -> re.Pattern[str]:
     """Lines whose parts have no blanks within, which are nearly all: both halves of the input part, and the pieces of the output part."""
     mark = f"[{re.escape(INPUT_MARKS)}]"
     pieces = "".join(f"([{re.escape(OUTPUT_MARKS)}]{{{size}}})" for size in sizes)
-    return re.compile(rf"\s*({mark}{{{n // 2}}})({mark}{{{n - n // 2}}})(?:\s*\|\s*|\s*){pieces}\s*(?:#.*)?")
+    between = r"(?:\s*\|\s*|\s*)" if n else NO_INPUTS
+    return re.compile(rf"\s*({mark}{{{n // 2}}})({mark}{{{n - n // 2}}}){between}{pieces}\s*(?:#.*)?")
 
 
 def _spread_form(n: int, m: int) -> re.Pattern[str]:
     """Lines whose parts may have blanks within, and have some or a bar between them."""
-    between = r"(?:\s*\|\s*|\s+)" if n else r"(?:\|\s*)?"
+    between = r"(?:\s*\|\s*|\s+)" if n else NO_INPUTS
     return re.compile(rf"\s*({_spread(INPUT_MARKS, n)}{between}{_spread(OUTPUT_MARKS, m)})\s*(?:#.*)?")
 
 

@@ -7,7 +7,7 @@ import re
 from collections.abc import Iterable, Iterator, Sequence
 from typing import TYPE_CHECKING, NamedTuple, Optional
 
-from . import Content
+from . import MARKS, Content
 from ..display import centred, columns
 from ..errors import Faults, Malformed
 from .drawn import Drawn
@@ -129,7 +129,7 @@ class _Page:
         """Takes a line with no bar. One that may be a row is an error, since it would be lost, and so is text that isn't on a page."""
         if self._is_places(line):
             self.drawn.name_places(line.words)
-        elif MARKS_ALONE.fullmatch(line.content):
+        elif MARKS_ALONE.fullmatch(line.content) or self._begins_as_row(line):
             raise line.first.wrong("a row without a bar")
         elif not self.indent:
             reason = "this is no row, no line of places and no comment; other text may stand beside an indented drawing only"
@@ -144,6 +144,11 @@ class _Page:
         word, *names = line.words
         alike = self.indent in ("", line.indent)
         return word.text == PLACES and (alike or (bool(names) and all(name.text in self.drawn.inputs for name in names)))
+
+    def _begins_as_row(self, line: Line) -> bool:
+        """Whether a line has a mark for each input, as a row has whose bar is mistyped. One mark alone may begin any text."""
+        n = len(self.drawn.inputs)
+        return n > 1 and line.content.lstrip()[:1] in MARKS and sum(word in MARKS for word in line.content.split()[:n]) == n
 
     def _tell_among(self) -> None:
         """A row comes, so the text that was kept stands among the rows."""

@@ -6,7 +6,7 @@ from collections.abc import Sequence
 
 from . import MARKS, MOST_INPUTS, MOST_OUTPUTS, Content, Mark
 from .row_sets import each_row, first_row
-from .words import BYTE_ORDER_MARK, Word, check_distinct, order_of, quoted, row_named, second_places
+from .words import BYTE_ORDER_MARK, Word, check_distinct, order_of, shortened, row_named, second_places
 
 
 class Drawn:
@@ -83,4 +83,4 @@ def _rows_of(marks: Sequence[Word]) -> int:
 def _check_are_marks(kind: str, words: Sequence[Word]) -> None:
     for word in words:
         if word.text not in MARKS:
-            raise word.wrong(f"{quoted(word.text)} is not an {kind}'s mark, which is 0, 1 or -")
+            raise word.wrong(f"{shortened(word.text)} is not an {kind}'s mark, which is 0, 1 or -")

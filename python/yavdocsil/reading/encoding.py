@@ -8,13 +8,14 @@ from typing import Optional
 
 from ..errors import Error, Malformed
 from ..library import BLOCK_BYTES
-from .words import BYTE_ORDER_MARK, split_lines
+from .words import split_lines
 
 NO_TEXT = "it is no text"
 # The files in blocks, by the kind of their first block, as they are named with --from and by their ending.
 BLOCK_FILES = {1: ("a table file", "table"), 4: ("a network file", "cells")}
 # What begins a text in UTF-16, the low byte first or the high one.
 UTF_16_MARKS = (codecs.BOM_UTF16_LE, codecs.BOM_UTF16_BE)
+UTF_32_MARKS = (codecs.BOM_UTF32_LE, codecs.BOM_UTF32_BE)
 # Encodings of one byte a sign, as a person and as iconv names them.
 ONE_BYTE = (("Latin-1", "latin1"), ("Windows-1252", "cp1252"))
 # Bytes that no text has in it, in whatever encoding: controls, but for those that move on and the escape.
@@ -26,13 +27,13 @@ class NotText(Error):
 
 
 def decoded(data: bytes) -> str:
-    """The text of a file, which is UTF-8. A byte order mark at its start is skipped."""
+    """The text of a file, which is UTF-8. A byte order mark at its start is left to the readers, who skip it."""
     _check_no_blocks(data)
     _check_no_utf_16(data)
     if 0 in data:
         raise NotText(NO_TEXT)
     try:
-        return data.decode("utf-8").removeprefix(BYTE_ORDER_MARK)
+        return data.decode("utf-8")
     except UnicodeDecodeError as error:
         raise _not_utf_8(data, error.start) from error
 
@@ -45,7 +46,9 @@ def _check_no_blocks(data: bytes) -> None:
 
 
 def _check_no_utf_16(data: bytes) -> None:
-    """Raises where a text is UTF-16: it has the mark of it, or every second byte is zero."""
+    """Raises where a text is UTF-16: it has the mark of it, or every second byte is zero. UTF-32 has the same mark, and more."""
+    if data.startswith(UTF_32_MARKS):
+        raise NotText("it is UTF-32, not UTF-8: save it as UTF-8, or use iconv -f utf-32 -t utf-8")
     name = "utf-16" if data.startswith(UTF_16_MARKS) else _unmarked_utf_16(data)
     if name is not None:
         raise NotText(f"it is UTF-16, not UTF-8: save it as UTF-8, or use iconv -f {name} -t utf-8")

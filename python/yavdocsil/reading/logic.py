@@ -10,7 +10,7 @@ from itertools import chain
 from ..display import many
 from ..errors import Faults, Malformed
 from .row_sets import all_rows, product
-from .words import Word, quoted
+from .words import Word, shortened
 
 # How many signals of a cycle are named.
 MOST_NAMED = 8
@@ -42,11 +42,11 @@ class Logic:
     outputs: dict[str, Word] = field(default_factory=dict)
     covers: dict[str, Cover] = field(default_factory=dict)
 
-    def check(self, faults: Faults) -> None:
-        """Tells signals that nothing drives, each where it is first named or read, and a cycle."""
-        for word in self._undriven().values():
+    def check(self, faults: Faults, misses: bool, where: str = "") -> None:
+        """Tells signals that nothing drives, each where it is first named or read, unless what drives them may be missing, and a cycle."""
+        for word in [] if misses else self._undriven().values():
             with faults:
-                raise word.wrong(f"nothing drives {quoted(word.text)}, and it is no input")
+                raise word.wrong(f"nothing drives {shortened(word.text)}{where}, and it is no input")
         with faults:
             _sequence(self.covers)
 
@@ -103,6 +103,6 @@ def _cycle(waiting: Collection[str], covers: Mapping[str, Cover]) -> Malformed:
         name = next(word.text for word in covers[name].reads if word.text in waiting)
     around = list(met)[met[name] :]
     first = around.index(min(around, key=lambda one: covers[one].driven[1:3]))
-    names = [quoted(one) for one in around[first:] + around[:first]]
+    names = [shortened(one) for one in around[first:] + around[:first]]
     shown = names if len(names) <= MOST_NAMED else [*names[:MOST_NAMED], ".."]
     return covers[around[first]].driven.wrong(f"a cycle of {many(len(names), 'signal')}: {' reads '.join([*shown, names[0]])}")

@@ -11,7 +11,7 @@ from ..errors import Faults, Malformed
 from .cubes import TYPES, Contradictions, Cubes, column, contradicted
 from .directives import argument, content_of, in_sequence, noted_places
 from .words import (
-    BLANKED, COMMENT, Word, check_distinct, check_names, order_of, places_line, quoted, row_digits, second_places, split_lines, words_of,
+    BLANKED, COMMENT, Word, check_distinct, check_names, order_of, places_line, shortened, row_digits, second_places, split_lines, words_of,
 )
 
 if TYPE_CHECKING:
@@ -114,7 +114,7 @@ class _Reader:
         word = words[0]
         name = END if word.text == ".end" else word.text
         if name not in TAKEN:
-            raise word.wrong(f"{quoted(name)} is not a directive that is taken here")
+            raise word.wrong(f"{shortened(name)} is not a directive that is taken here")
         if name in self.directives:
             raise word.wrong(f"{name} stands twice, in lines {self.directives[name][0].line} and {word.line}")
         self.directives[name] = words
@@ -158,7 +158,7 @@ class _Reader:
             raise words[0].wrong(".type stands after a cube; it goes before the first")
         word = argument(words)
         if word.text not in TYPES:
-            raise word.wrong(f"{quoted(word.text)} is not a type, which is {', '.join(TYPES)}")
+            raise word.wrong(f"{shortened(word.text)} is not a type, which is {', '.join(TYPES)}")
         self.type = word.text
 
     def _take_phase(self, words: list[Word]) -> None:
@@ -256,7 +256,7 @@ TAKEN: dict[str, Callable[[_Reader, list[Word]], None]] = {
 
 def _number(word: Word) -> int:
     if not NUMBER.fullmatch(word.text):
-        raise word.wrong(f"{quoted(word.text)} is not a number of up to nine digits")
+        raise word.wrong(f"{shortened(word.text)} is not a number of up to nine digits")
     return int(word.text)
 
 

@@ -6,11 +6,11 @@ from collections.abc import Sequence
 from typing import Optional
 
 from ..display import harmless, many
-from ..errors import Error, Faults, Malformed
-from .words import COMMENT, quoted, split_lines
+from ..errors import Error, Malformed
+from .words import COMMENT, shortened, split_lines
 
 
-class BadRow(Error):
+class BadRow(Error, ValueError):
     """Bits that are no row of a table."""
 
 
@@ -20,7 +20,7 @@ def row_of(text: str, inputs: Sequence[str]) -> int:
     # What is left without the bits at both ends is empty where there is nothing but bits.
     if len(bits) != len(inputs) or bits.strip("01"):
         named = f", for {' '.join(inputs)}" if inputs else ""
-        given = quoted(text.strip()) or repr(text)
+        given = shortened(text.strip()) or repr(text)
         raise BadRow(harmless(f"{given} is no row: it takes {many(len(inputs), 'bit')}{named}"))
     return int(bits or "0", 2)
 
@@ -30,22 +30,19 @@ def bits_of(row: int, n: int) -> tuple[int, ...]:
     return tuple(row >> n - 1 - i & 1 for i in range(n))
 
 
-def read(text: str, inputs: Sequence[str], faults: Optional[Faults] = None) -> list[int]:
+def read(text: str, inputs: Sequence[str]) -> list[int]:
     """The rows of a file's lines, in sequence; blank lines and comments are none."""
-    faults = Faults() if faults is None else faults
     rows: list[int] = []
     # Lines of bits alone that were met before: a log has few rows, each of them often.
     known: dict[str, int] = {}
     for number, line in enumerate(split_lines(text), 1):
         row = known.get(line)
         if row is None:
-            with faults:
-                row = _row_in(line, number, inputs)
+            row = _row_in(line, number, inputs)
         if row is not None:
             rows.append(row)
             if len(line) == len(inputs):
                 known[line] = row
-    faults.end()
     return rows
 
 

@@ -77,6 +77,7 @@ class Separated:
             cells, end, line = cut(self.text, row, separator)
         except Malformed as error:
             self._go_behind(error.line)
+            self._row = row.number + 1
             raise
         if line != row.line:
             self._next, self._line, self._row = end, line, row.number

@@ -9,8 +9,8 @@ from typing import TYPE_CHECKING, Optional
 from . import Content
 from ..errors import Faults, Malformed
 from .drawn import Drawn
-from .separated import QUOTE, SEPARATORS, Row, Separated, guessed, used
-from .words import BAR, BYTE_ORDER_MARK, COMMENT, PLACES, Word, check_names, places_words, quoted, row_digits
+from .separated import QUOTE, SEPARATORS, Separated, guessed, used
+from .words import BAR, BYTE_ORDER_MARK, COMMENT, PLACES, Word, check_names, places_words, shortened, row_digits
 
 if TYPE_CHECKING:
     from ..table import Table
@@ -97,9 +97,9 @@ def _marks(cells: Sequence[Word], n: int, m: int) -> tuple[Sequence[Word], Word,
     if missing is not None:
         raise missing.wrong("an input's mark is missing, which is 0, 1 or -")
     if bar.text not in ("", BAR):
-        raise bar.wrong(f"{quoted(bar.text)} stands between the inputs and the outputs, where a cell is {BAR} or empty")
+        raise bar.wrong(f"{shortened(bar.text)} stands between the inputs and the outputs, where a cell is {BAR} or empty")
     if beyond:
-        raise beyond[-1].wrong(f"{quoted(beyond[-1].text)} stands right of the outputs, where the heading is empty")
+        raise beyond[-1].wrong(f"{shortened(beyond[-1].text)} stands right of the outputs, where the heading is empty")
     return left, bar, [cell if cell.text else cell._replace(text=FREE) for cell in right]
 
 

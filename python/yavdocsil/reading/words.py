@@ -105,6 +105,6 @@ def row_named(row: int, n: int) -> str:
     return f"row {row_digits(row, n)}" if n else "the only row"
 
 
-def quoted(text: str) -> str:
+def shortened(text: str) -> str:
     """A word as an error quotes it: its beginning alone, if it is long."""
     return text if len(text) <= MOST_QUOTED else f"{text[:MOST_QUOTED]}.."
