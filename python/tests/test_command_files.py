@@ -199,6 +199,19 @@ class Broken(WithFolder):
         told = self.shell(f"./yav swap {PAIRS} 1 -o - --to blif 2>/dev/full >/dev/null")
         self.assertEqual(told, (1, ""))
 
+    def test_a_file_that_can_not_be_written_whole(self):
+        """The old one stays, and nothing is left beside it."""
+        old, link = self.file("old.csv", "a,|,y\n"), self.folder / "link.csv"
+        old.chmod(0o640)
+        link.symlink_to(old)
+        for out in (old, link, self.folder / "new.csv"):
+            told = self.shell(f"ulimit -f 0; ./yav convert {GUARD} {out}")
+            self.assertEqual(told, (1, f"yav: {out}: File too large\n"))
+        self.assertEqual(old.read_text(encoding="utf-8"), "a,|,y\n")
+        self.assertEqual(sorted(path.name for path in self.folder.iterdir()), ["link.csv", "old.csv"])
+        self.written("convert", GUARD, link)
+        self.assertEqual((link.is_symlink(), old.stat().st_mode & 0o777, len(old.read_bytes()) > 100), (True, 0o640, True))
+
     def test_a_closed_output(self):
         for words in ("info", "show --svg", "show", "evaluate", "convert --to pla"):
             file = f"{GUARD} -" if words.startswith("convert") else GUARD

@@ -238,6 +238,7 @@ class Files(Refusing):
             with self.assertRaises(UnknownFormat) as caught:
                 read(self.folder / "a")
             self.assertIn(f"{self.folder / 'a'}: its ending tells no format: known are ", str(caught.exception))
+            self.assertTrue(str(caught.exception).endswith("; or kind names one of drawing, pla, csv, table, blif, cells"))
             with self.assertRaisesRegex(UnknownFormat, ": svg can't be read; known are drawing, pla, csv, table, blif, cells$"):
                 read(self.folder / "a", "svg")
 

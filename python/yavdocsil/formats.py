@@ -58,11 +58,11 @@ def names_in(endings: Mapping[str, str]) -> tuple[str, ...]:
     return tuple(dict.fromkeys(endings.values()))
 
 
-def read_as(path: pathlib.PurePath, named: Optional[str] = None) -> str:
-    """The format to read a file in: the one that is named, or else the one that its ending tells."""
+def read_as(path: pathlib.PurePath, named: Optional[str] = None, option: str = "kind") -> str:
+    """The format to read a file in: the one that is named, by an option that an error speaks of, or else the one that its ending tells."""
     names = names_in(READ_ENDINGS)
     if named is None:
-        return _told_by(path, READ_ENDINGS, names, "--from")
+        return _told_by(path, READ_ENDINGS, names, option)
     if named not in names:
         raise UnknownFormat(f"{named} can't be read; known are {', '.join(names)}")
     return named

@@ -6,6 +6,7 @@ import argparse
 import contextlib
 import os
 import pathlib
+import shutil
 import sys
 from collections.abc import Iterator, Mapping
 from typing import BinaryIO, Optional
@@ -91,7 +92,7 @@ def kind_in(given: argparse.Namespace) -> str:
     path, named = given.file, given.read_as
     if path == STANDARD and named is None:
         raise NoStream(f"it has no ending that tells its format; --from names one of {', '.join(formats.names_in(formats.READ_ENDINGS))}")
-    return formats.read_as(path, named)
+    return formats.read_as(path, named, "--from")
 
 
 def network_in(given: argparse.Namespace, faults: Faults) -> Network:
@@ -182,13 +183,30 @@ def write_out(data: bytes, kind: str, out: Optional[pathlib.Path]) -> None:
     """Writes to a file, or to standard output where none is named or it is `-`."""
     with about(called(out or STANDARD, "output")):
         if out is not None and out != STANDARD:
-            out.write_bytes(data)
+            put_file(data, out)
             return
         stream = output()
         if kind in formats.BINARY and stream.isatty():
             raise NoStream("it is a terminal, and this is no text; name a file, or write it on into one")
         stream.write(data)
         stream.flush()
+
+
+def put_file(data: bytes, out: pathlib.Path) -> None:
+    """Writes a file whole: what stood there stays until all is written, and of what can't be nothing is left."""
+    path = out.resolve()
+    if path.exists() and not path.is_file():
+        # A device or a pipe has no content to keep.
+        path.write_bytes(data)
+        return
+    beside = path.with_name(f".{path.name}.{os.getpid()}")
+    try:
+        beside.write_bytes(data)
+        if path.exists():
+            shutil.copymode(path, beside)
+        beside.replace(path)
+    finally:
+        beside.unlink(missing_ok=True)
 
 
 def save(network: Network, kind: str, given: argparse.Namespace) -> None:
