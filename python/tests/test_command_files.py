@@ -222,7 +222,10 @@ class Broken(WithFolder):
 
     def test_an_interrupt(self):
         command, pipe = [str(ROOT / "yav"), "show", "-", "--from", "drawing"], subprocess.PIPE
-        run = subprocess.Popen(command, cwd=ROOT, stdin=pipe, stdout=pipe, stderr=pipe)
+        # Whoever runs the tests in the background may have the signal ignored, which a program inherits.
+        run = subprocess.Popen(
+            command, cwd=ROOT, stdin=pipe, stdout=pipe, stderr=pipe, preexec_fn=lambda: signal.signal(signal.SIGINT, signal.SIG_DFL),
+        )
         run.stdin.write(b"#")
         run.stdin.flush()
         waiting = array.array("i", [1])
@@ -230,7 +233,7 @@ class Broken(WithFolder):
             # It has begun to read once nothing is left in the pipe.
             fcntl.ioctl(run.stdin, termios.FIONREAD, waiting)
         run.send_signal(signal.SIGINT)
-        _, told = run.communicate()
+        _, told = run.communicate(timeout=60)
         self.assertEqual((run.returncode, told), (130, b""))
 
     def test_folders_and_files_that_are_not_there(self):
