@@ -1,4 +1,4 @@
-"""A diagram as a DOT_INK file for graphviz, in the look of the SVG picture.
+"""A diagram as a DOT file for graphviz, in the look of the SVG picture.
 
 There is a rank for each place; 0-edges are dashed, and edges that invert end in a dot.
 """
@@ -27,7 +27,7 @@ LINE_END = '<br align="left"/>'
 
 
 def write(diagram: Diagram, title: str = "") -> str:
-    """The graph as the text of a DOT_INK file."""
+    """The graph as the text of a DOT file."""
     diagram = shown(diagram)
     parts = (_roots, _places, _constants, _levels, _edges)
     lines = [*SETTINGS, _label(diagram, title), *(line for part in parts for line in part(diagram))]

@@ -10,7 +10,7 @@ from ..errors import Faults, Malformed
 from .directives import argument, content_of, in_sequence, noted_places
 from .logic import Cover, Logic
 from .row_sets import marks_of, rows_where
-from .words import BLANKED, Word, check_distinct, order_of, shortened, second_places, split_lines, words_of
+from .words import BLANKED, Word, check_distinct, order_of, second_places, shortened, split_lines, words_of
 
 GOES_ON = "\\"
 INPUT_MARKS, OUTPUT_MARKS = "01-", ("0", "1")

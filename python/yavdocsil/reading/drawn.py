@@ -6,7 +6,7 @@ from collections.abc import Sequence
 
 from . import MARKS, MOST_INPUTS, MOST_OUTPUTS, Content, Mark
 from .row_sets import each_row, first_row
-from .words import BYTE_ORDER_MARK, Word, check_distinct, order_of, shortened, row_named, second_places
+from .words import BYTE_ORDER_MARK, Word, check_distinct, order_of, row_named, second_places, shortened
 
 
 class Drawn:

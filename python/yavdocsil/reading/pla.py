@@ -11,7 +11,7 @@ from ..errors import Faults, Malformed
 from .cubes import TYPES, Contradictions, Cubes, column, contradicted
 from .directives import argument, content_of, in_sequence, noted_places
 from .words import (
-    BLANKED, COMMENT, Word, check_distinct, check_names, order_of, places_line, shortened, row_digits, second_places, split_lines, words_of,
+    BLANKED, COMMENT, Word, check_distinct, check_names, order_of, places_line, row_digits, second_places, shortened, split_lines, words_of,
 )
 
 if TYPE_CHECKING:

@@ -10,7 +10,7 @@ from . import Content
 from ..errors import Faults, Malformed
 from .drawn import Drawn
 from .separated import QUOTE, SEPARATORS, Separated, guessed, used
-from .words import BAR, BYTE_ORDER_MARK, COMMENT, PLACES, Word, check_names, places_words, shortened, row_digits
+from .words import BAR, BYTE_ORDER_MARK, COMMENT, PLACES, Word, check_names, places_words, row_digits, shortened
 
 if TYPE_CHECKING:
     from ..table import Table
