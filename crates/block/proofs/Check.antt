@@ -5,21 +5,16 @@ use mathlib.Core.Bool.{false}
 use mathlib.Core.List.{List}
 use Prim.Native.Nat.{ℕ, suc, _+_, _*_, _%_, _≤_, _<_}
 use native.Mathlib.Nat.{mul-le-mul}
-use native.Mathlib.Numerals.{add-one}
 use native.Mathlib.Omega.{arith}
 use borrow.Author.Tests.{eq-eqb, ne-eqb, le-leb, lt-leb}
 use lib.Dec.{eqb}
 use lib.ListN.{length}
-use Rattle.block.specs.Bits.{sumBelow}
+use Rattle.lists.specs.Sums.{sumBelow}
 use Rattle.block.specs.Block.{blockSize, checkAt, wholeBlocks, byte, checkOf, goodNumber}
 
 -- what one byte adds to a check is at most 510 × 255
 pub weight-most : (i x : ℕ) → i < checkAt → x < 256 → (i + 1) * x ≤ checkAt * 255
 weight-most i x h k = mul-le-mul {n₂ = checkAt} {m₂ = 255} (omega arith) (omega arith)
-
--- a sum with one more term
-pub sum-more : (f : ℕ → ℕ) (i total x : ℕ) → total ≡ sumBelow f i → x ≡ f i → total + x ≡ sumBelow f (i + 1)
-sum-more f i total x e d = rw (add-one i) (ap₂ _+_ e d)
 
 pub check-is : (file : List ℕ) (k i total : ℕ) → i ≡ checkAt → total ≡ sumBelow (λ j. suc j * byte file k j) i
     → total % 65521 ≡ checkOf file k

@@ -2,28 +2,16 @@
 -- Assumes nothing.
 use mathlib.Core.Path.{_≡_, sym, ap, _∙_}
 use mathlib.Core.Bool.{Bool, true, false}
-use mathlib.Core.List.{List, map}
+use mathlib.Core.List.{List}
 use Prim.Native.Nat.{ℕ, _+_, _≤_, _<_}
 use native.Mathlib.Omega.{arith}
 use borrow.Author.Tests.{le-ltb, lt-ltb}
 use lib.Dec.{ltb}
-use lib.ListN.{length, getD, take}
-use lib.Seq.{length-take-le, getD-take, ext-getD, take-length}
-use Rattle.diagram.specs.Lists.{all, upTo}
-use Rattle.diagram.proofs.Lists.{all-mapped}
-use Rattle.diagram.proofs.Numbers.{all-upTo-more, all-upTo-fails}
-use Rattle.diagram.proofs.UpTo.{length-map-upTo, getD-map-upTo}
-
-pub first-elements : (m : ℕ) (l : List ℕ) → m ≤ length l → take m l ≡ map (λ j. getD l j 0) (upTo m)
-first-elements m l h =
-    let f : ℕ → ℕ = λ j. getD l j 0 in
-    let k : length (take m l) ≡ m = length-take-le m l h in
-    ext-getD 0 (take m l) (map f (upTo m)) (k ∙ sym (length-map-upTo f m))
-    (λ j b. let a : j < m = omega arith in getD-take m l j 0 a ∙ sym (getD-map-upTo f m j 0 a))
-
--- a test of them
-pub all-first : (q : ℕ → Bool) (m : ℕ) (l : List ℕ) → m ≤ length l → all q (take m l) ≡ all (λ j. q (getD l j 0)) (upTo m)
-all-first q m l h = ap (all q) (first-elements m l h) ∙ all-mapped q (λ j. getD l j 0) (upTo m)
+use lib.ListN.{length, getD}
+use lib.Seq.{take-length}
+use Rattle.lists.specs.Lists.{all, upTo}
+use Rattle.lists.proofs.Numbers.Compared.{all-upTo-more, all-upTo-fails}
+use Rattle.lists.proofs.Numbers.UpTo.{all-first}
 
 -- every number below a limit, one by one
 

@@ -1,9 +1,6 @@
-pub mod Below
 pub mod Check
 pub mod Elements
-pub mod Packed
 pub mod Parts
 pub mod StreamBits
-pub mod Sums
 pub mod UnusedBits
 pub mod Words

@@ -11,10 +11,10 @@ use borrow.Author.Tests.{eqb-false, eq-eqb, le-leb, leb-true}
 use lib.Dec.{T, eqb, leb, eqb→eq, leb→le, le→leb}
 use lib.Pow.{pow-mono, pow-pos, shr-lt}
 use lib.Pow as Pow
-use Rattle.diagram.specs.Lists.{all, upTo}
-use Rattle.diagram.proofs.Bools.{split, to-T, absurd-T, both-ways}
-use Rattle.diagram.proofs.Numbers.{all-upTo-at, all-upTo-of}
-use Rattle.block.proofs.Below.{all-more, all-same}
+use Rattle.lists.specs.Lists.{all, upTo}
+use Rattle.lists.proofs.Bools.{split, to-T, absurd-T, both-ways}
+use Rattle.lists.proofs.Numbers.Compared.{all-upTo-at, all-upTo-of}
+use Rattle.lists.proofs.Numbers.Below.{all-more, all-same}
 use Rattle.block.specs.Block.{contentAt, contentSize, contentBits, byte, contentBit, unusedBitsZero}
 use Rattle.block.specs.inner.UnusedByte.{unusedByteZero}
 

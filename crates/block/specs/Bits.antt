@@ -6,20 +6,9 @@ use mathlib.Core.List.{List}
 use Prim.Native.Nat.{ℕ, zero, suc, _+_, _*_, _/_, _%_, _^_}
 use lib.Dec.{eqb}
 use lib.ListN.{getD}
-use Rattle.diagram.specs.Lists.{digit}
 
 unfoldable pub streamBit : List ℕ → ℕ → Bool
 streamBit bytes i = eqb (getD bytes (i / 8) 0 / 2 ^ (i % 8) % 2) 1
-
--- f 0 to f (k - 1), added up
-abbrev pub sumBelow : (ℕ → ℕ) → ℕ → ℕ
-sumBelow f zero = 0
-sumBelow f (suc k) = sumBelow f k + f k
-
--- bits 0 to k - 1 as a number, bit 0 the lowest
-abbrev pub packed : ℕ → (ℕ → Bool) → ℕ
-packed zero f = 0
-packed (suc k) f = packed k f + digit (f k) * 2 ^ k
 
 -- k bytes from byte `at` on as a number, the lowest first
 abbrev pub wordOf : List ℕ → ℕ → ℕ → ℕ

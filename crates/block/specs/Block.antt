@@ -5,8 +5,8 @@ use mathlib.Core.List.{List}
 use Prim.Native.Nat.{ℕ, suc, _+_, _*_, _-_, _/_, _%_, _^_}
 use lib.Dec.{eqb, leb}
 use lib.ListN.{length, getD}
-use Rattle.diagram.specs.Lists.{all, upTo}
-use Rattle.block.specs.Bits.{sumBelow}
+use Rattle.lists.specs.Lists.{all, upTo}
+use Rattle.lists.specs.Sums.{sumBelow}
 
 -- 'Blocks of 512 bytes'; 'bytes 4–509 content; bytes 510–511 the check'
 abbrev pub blockSize : ℕ

@@ -3,7 +3,7 @@
 use mathlib.Core.Bool.{cond}
 use Prim.Native.Nat.{ℕ, suc, _*_, _-_, _%_}
 use lib.Dec.{eqb, ltb}
-use Rattle.block.specs.Bits.{sumBelow}
+use Rattle.lists.specs.Sums.{sumBelow}
 use Rattle.block.specs.Block.{contentAt, checkAt}
 use Rattle.block.specs.Numbers.{numberByte}
 

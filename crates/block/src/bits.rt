@@ -2,7 +2,7 @@
 ghost use mathlib.Core.Path.{_≡_};
 ghost use Prim.Native.Nat.{_<_};
 ghost use lib.ListN.{getD};
-ghost use Rattle.diagram.specs.Lists.{digit};
+ghost use Rattle.lists.specs.Bits.{digit};
 ghost use Rattle.block.specs.Bits.{streamBit, wordOf};
 
 // Byte i, or 0 past the end.

@@ -8,19 +8,19 @@ use native.Mathlib.Omega.{arith}
 use borrow.Author.Tests.{le-leb, lt-leb}
 use lib.Dec.{T, leb, leb→le}
 use lib.ListN.{length}
-use Rattle.diagram.specs.Diagram.{Diagram, wellFormed}
-use Rattle.diagram.specs.Bound.{mostVariables, mostOutputs, mostNodes}
-use Rattle.diagram.specs.Order.{isOrder}
-use Rattle.diagram.specs.Canonical.{canonical}
-use Rattle.diagram.specs.inner.Structure.{structured}
-use Rattle.diagram.proofs.Bools.{split, of-T, to-T, and-r}
-use Rattle.diagram.proofs.UpTo.{length-map-upTo}
-use Rattle.diagram.proofs.Canonical.{network-iff, canonical-count}
+use Rattle.lists.proofs.Bools.{split, of-T, to-T, and-r}
+use Rattle.lists.proofs.Numbers.UpTo.{length-map-upTo}
+use Rattle.diagram.specs.Networks.Diagram.{Diagram, wellFormed}
+use Rattle.diagram.specs.Networks.Bound.{mostVariables, mostOutputs, mostNodes}
+use Rattle.diagram.specs.Orders.Order.{isOrder}
+use Rattle.diagram.specs.Canonical.Computed.{canonical}
+use Rattle.diagram.specs.Canonical.Structure.{structured}
+use Rattle.diagram.proofs.Canonical.NetworkIff.{network-iff, canonical-count}
 use Rattle.table.specs.declared.Answer.the-variants.{Done, ShortBuffer, NoNetwork, BadCells, NotCanonical}
 use Rattle.table.specs.declared.State.{State}
 use Rattle.table.specs.Answer.{done}
 use Rattle.table.specs.State.{orderOf, stageOf, isNothing, isNetwork}
-use Rattle.table.proofs.Accepted.{unless-done}
+use Rattle.table.proofs.Files.Accepted.{unless-done}
 use Rattle.lent.specs.Lent.{lentNode, lentDiagram, rootsSize}
 use Rattle.lent.specs.Evaluate.{goodCells}
 use Rattle.lent.proofs.Answered.{network-held, followable, rooted}

@@ -7,11 +7,11 @@ use mathlib.Core.List.{List, [], _∷_, _++_, append-nil, append-assoc}
 use Prim.Native.Nat.{ℕ}
 use borrow.Author.Tests.{eq-eqb, eqb-true}
 use lib.Dec.{eqb}
-use Rattle.diagram.specs.Lists.{has, without, firsts}
-use Rattle.diagram.proofs.Bools.{split, of-T, to-T, absurd-T}
-use Rattle.diagram.proofs.Lists.{eqb-equality, without-has, has-without}
-use Rattle.diagram.proofs.Less.{without-append}
-use Rattle.diagram.proofs.Numbers.{differ-swap}
+use Rattle.lists.specs.Lists.{has, without, firsts}
+use Rattle.lists.proofs.Bools.{split, of-T, to-T, absurd-T}
+use Rattle.lists.proofs.Lists.Membership.{eqb-equality, without-has, has-without}
+use Rattle.lists.proofs.Lists.Less.{without-append}
+use Rattle.lists.proofs.Numbers.Compared.{differ-swap}
 use Rattle.canonical.specs.inner.Walk.{arrived, arrivedAll}
 
 pub arrived-old : (ks : List ℕ) (k : ℕ) → has eqb k ks ≡ true → arrived ks k ≡ ks

@@ -10,13 +10,13 @@ use borrow.Author.Tests.{eq-eqb, ne-eqb, eqb-true}
 use lib.Dec.{T, eqb, ltb→lt, lt→ltb}
 use lib.ListN.{length, getD, take, set, replicate, length-set, length-append, length-replicate, getD-replicate}
 use lib.Seq.{length-take-le, take-suc-set, getD-take, getD-set-same, getD-set-other}
-use Rattle.diagram.specs.Lists.{all, has, distinct}
-use Rattle.diagram.specs.Bound.{mostNodes}
-use Rattle.diagram.proofs.Bools.{split, to-not, and-T}
-use Rattle.diagram.proofs.Lists.{eqb-equality, all-at, all-append}
-use Rattle.diagram.proofs.Numbers.{differ, few}
+use Rattle.lists.specs.Lists.{all, has, distinct}
+use Rattle.lists.proofs.Bools.{split, to-not, and-T}
+use Rattle.lists.proofs.Lists.Membership.{eqb-equality, all-at, all-append}
+use Rattle.lists.proofs.Numbers.Compared.{differ, few}
+use Rattle.lists.proofs.Lists.Grown.{has-append, distinct-more}
+use Rattle.diagram.specs.Networks.Bound.{mostNodes}
 use Rattle.canonical.specs.inner.Walk.{arrived, isBelow, Listed, Holds}
-use Rattle.diagram.proofs.Grown.{take-more, has-append, distinct-more}
 use Rattle.canonical.proofs.Firsts.{arrived-old, arrived-new}
 
 pub within-at : (n len i : ℕ) (l : List ℕ) → T (all (isBelow n) (take len l)) → len ≤ length l → i < len → getD l i 0 < n
@@ -24,12 +24,6 @@ within-at n len i l t h k =
     ltb→lt (getD l i 0) n
     (subst (λ (x : ℕ). T (isBelow n x)) (getD-take len l i 0 k)
     (all-at (isBelow n) (take len l) t i 0 (omega (arith, length-take-le len l h))))
-
--- one number more is copied
-pub copied-more : (from to : List ℕ) (i : ℕ) → i < length from → i < length to → take i to ≡ take i from
-    → take (i + 1) (set to i (getD from i 0)) ≡ take (i + 1) from
-copied-more from to i f t e =
-    rw (add-one i) (take-suc-set to i (getD from i 0) t) ∙ ap (λ (l : List ℕ). l ++ (getD from i 0 ∷ [])) e ∙ sym (take-more from i f)
 
 pub holds-as : {ks js : List ℕ} {stamp len : ℕ} {list marks : List ℕ} → ks ≡ js → Holds ks stamp len list marks
     → Holds js stamp len list marks

@@ -11,16 +11,16 @@ use borrow.Author.Tests.{eq-eqb, ne-eqb, eqb-true}
 use lib.Dec.{eqb}
 use lib.ListN.{length, getD, set, length-set}
 use lib.Seq.{getD-set-same, getD-set-other}
-use Rattle.diagram.specs.Lists.{all, has, upTo}
-use Rattle.diagram.specs.Diagram.{Node, sameNode}
-use Rattle.diagram.specs.inner.Structure.{nodeReduced}
-use Rattle.diagram.proofs.Bools.{split, to-T}
-use Rattle.diagram.proofs.Lists.{all-mapped}
-use Rattle.diagram.proofs.Equal.{node-equality}
-use Rattle.diagram.proofs.Numbers.{differ, below-other, all-upTo-fails}
+use Rattle.lists.specs.Lists.{all, has, upTo}
+use Rattle.lists.proofs.Bools.{split, to-T}
+use Rattle.lists.proofs.Lists.Membership.{all-mapped}
+use Rattle.lists.proofs.Numbers.Compared.{differ, below-other, all-upTo-fails}
+use Rattle.lists.proofs.Lists.Grown.{distinct-upTo, has-upTo-more, has-upTo-none, has-upTo-at}
+use Rattle.diagram.specs.Networks.Diagram.{Node, sameNode}
+use Rattle.diagram.specs.Canonical.Structure.{nodeReduced}
+use Rattle.diagram.proofs.Networks.Same.{node-equality}
 use Rattle.lent.specs.Lent.{lentNode}
 use Rattle.canonical.specs.inner.Reduced.{lentNodes, isNew, reducedNodes, slots, slotOf, Slotted}
-use Rattle.diagram.proofs.Grown.{distinct-upTo, has-upTo-more, has-upTo-none, has-upTo-at}
 
 -- the same node has the same slot
 same-slot : (c e : Node) → sameNode c e ≡ true → slotOf c ≡ slotOf e

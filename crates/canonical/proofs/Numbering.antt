@@ -7,14 +7,13 @@ use Prim.Native.Nat.{ℕ, zero, suc, _+_, _≤_, _<_}
 use native.Mathlib.Omega.{arith}
 use lib.Dec.{T, eqb, ltb→lt}
 use lib.ListN.{length, getD}
-use Rattle.diagram.specs.Lists.{all, firsts, equal}
-use Rattle.diagram.specs.Diagram.{Node, Diagram}
-use Rattle.diagram.specs.inner.Structure.{nodeOn, atLevel, targets, spread, standing, range, numbered}
-use Rattle.diagram.proofs.Bools.{split, and-l, and-r}
-use Rattle.diagram.proofs.Lists.{eqb-equality, all-has, keep-cong, keep-length}
-use Rattle.diagram.proofs.Reference.{target-reference}
-use Rattle.lent.specs.Lent.{lentNode, lentDiagram}
-use Rattle.lent.specs.inner.Cells.{lentCells}
+use Rattle.lists.specs.Lists.{all, firsts, equal}
+use Rattle.lists.proofs.Bools.{split, and-l, and-r}
+use Rattle.lists.proofs.Lists.Membership.{eqb-equality, all-has, keep-cong, keep-length}
+use Rattle.diagram.specs.Networks.Diagram.{Node, Diagram}
+use Rattle.diagram.specs.Canonical.Structure.{nodeOn, atLevel, targets, spread, standing, range, numbered}
+use Rattle.diagram.proofs.Networks.Reference.{target-reference}
+use Rattle.lent.specs.Lent.{lentNode, lentDiagram, lentCells}
 use Rattle.lent.proofs.Nodes.{lent-length, lent-at}
 use Rattle.canonical.specs.declared.walk.Numbered.the-variants.{Next, Broken}
 use Rattle.canonical.specs.inner.Walk.{standsAt, lentStanding, lentSpread, isBelow, followed}

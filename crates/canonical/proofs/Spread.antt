@@ -7,11 +7,11 @@ use Prim.Native.Nat.{ℕ, _+_, _*_, _-_, _/_, _≤_, _<_}
 use borrow.Author.Tests.{eq-eqb, ne-eqb, lt-ltb, le-ltb}
 use lib.Dec.{eqb}
 use lib.ListN.{length, getD, take}
-use Rattle.diagram.specs.Lists.{firsts}
-use Rattle.diagram.specs.inner.Structure.{targets, allTargets}
-use Rattle.diagram.proofs.Bools.{split}
+use Rattle.lists.specs.Lists.{firsts}
+use Rattle.lists.proofs.Bools.{split}
+use Rattle.lists.proofs.Lists.Grown.{take-more}
+use Rattle.diagram.specs.Canonical.Structure.{targets, allTargets}
 use Rattle.canonical.specs.inner.Walk.{arrivedAll, standsAt, lentSpread}
-use Rattle.diagram.proofs.Grown.{take-more}
 use Rattle.canonical.proofs.Firsts.{firsts-append, arrivedAll-append}
 
 -- references

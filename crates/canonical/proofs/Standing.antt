@@ -9,16 +9,16 @@ use borrow.Author.Tests.{eq-eqb, ne-eqb}
 use lib.Dec.{T, eqb}
 use lib.ListN.{length, getD, take, drop, length-append}
 use lib.Seq.{take-take, getD-take, length-take-le, split-at, getD-append-seam}
-use Rattle.diagram.specs.Lists.{equal}
-use Rattle.diagram.specs.inner.Structure.{range}
-use Rattle.diagram.proofs.Bools.{split, of-T, to-T}
-use Rattle.diagram.proofs.Lists.{keep-length}
-use Rattle.diagram.proofs.Less.{keep-append}
-use Rattle.diagram.proofs.Equal.{numbers-equality}
-use Rattle.diagram.proofs.UpTo.{map-upTo-more, getD-map-upTo}
+use Rattle.lists.specs.Lists.{equal}
+use Rattle.lists.proofs.Lists.Equal.{numbers-equality}
+use Rattle.lists.proofs.Bools.{split, of-T, to-T}
+use Rattle.lists.proofs.Lists.Membership.{keep-length}
+use Rattle.lists.proofs.Lists.Less.{keep-append}
+use Rattle.lists.proofs.Numbers.UpTo.{map-upTo-more, getD-map-upTo}
+use Rattle.lists.proofs.Lists.Grown.{take-more}
+use Rattle.diagram.specs.Canonical.Structure.{range}
 use Rattle.canonical.specs.declared.walk.Numbered.the-variants.{Next, Broken}
 use Rattle.canonical.specs.inner.Walk.{standsAt, lentStanding, followed}
-use Rattle.diagram.proofs.Grown.{take-more}
 
 -- the first i of the nodes seen: those that stand at level p are the next ones, and `after` is the number after them
 pub record Follows (cells : List ℕ) (p next : ℕ) (seen : List ℕ) (i after : ℕ) : Type 0 where

@@ -9,14 +9,13 @@ use native.Mathlib.Omega.{arith}
 use lib.Dec.{T, eqb, ltb, ltb→lt, leb→le}
 use lib.ListN.{length, getD, take}
 use lib.Seq.{length-take-le, getD-take}
-use Rattle.diagram.specs.Lists.{all, distinct, firsts}
-use Rattle.diagram.specs.Diagram.{later, refers, nodeAt, sameNode, nodeGood}
-use Rattle.diagram.specs.inner.Structure.{nodeReduced, allTargets, numbered, structured}
-use Rattle.diagram.proofs.Bools.{and-l, and-r, or-cases}
-use Rattle.diagram.proofs.Lists.{all-at}
-use Rattle.diagram.proofs.Numbers.{all-upTo-at}
-use Rattle.lent.specs.Lent.{lentNode, lentDiagram}
-use Rattle.lent.specs.inner.Cells.{lentCells}
+use Rattle.lists.specs.Lists.{all, distinct, firsts}
+use Rattle.lists.proofs.Bools.{and-l, and-r, or-cases}
+use Rattle.lists.proofs.Lists.Membership.{all-at}
+use Rattle.lists.proofs.Numbers.Compared.{all-upTo-at}
+use Rattle.diagram.specs.Networks.Diagram.{later, refers, nodeAt, sameNode, nodeGood}
+use Rattle.diagram.specs.Canonical.Structure.{nodeReduced, allTargets, numbered, structured}
+use Rattle.lent.specs.Lent.{lentNode, lentDiagram, lentCells}
 use Rattle.lent.proofs.Nodes.{lent-length, all-nodes}
 use Rattle.canonical.specs.inner.Reduced.{lentNodes, reducedNodes}
 use Rattle.canonical.specs.inner.Walk.{Own}

@@ -8,10 +8,10 @@ use native.Mathlib.Omega.{arith}
 use lib.Dec.{T, eqb}
 use lib.ListN.{length, take}
 use lib.Seq.{length-take-le}
-use Rattle.diagram.specs.Lists.{all, firsts}
-use Rattle.diagram.specs.Bound.{mostVariables, mostNodes}
-use Rattle.diagram.specs.inner.Structure.{allTargets, numbered}
-use Rattle.lent.specs.inner.Cells.{lentCells}
+use Rattle.lists.specs.Lists.{all, firsts}
+use Rattle.diagram.specs.Networks.Bound.{mostVariables, mostNodes}
+use Rattle.diagram.specs.Canonical.Structure.{allTargets, numbered}
+use Rattle.lent.specs.Lent.{lentCells}
 use Rattle.canonical.specs.declared.walk.Numbered.the-variants.{Next, Broken}
 use Rattle.canonical.specs.inner.Walk.{lentSpread, isBelow, Listed, Holds, followed}
 use Rattle.canonical.proofs.Listed.{listed-few}

@@ -6,7 +6,7 @@ use mathlib.Core.List.{List}
 use Prim.Native.Nat.{ℕ}
 use lib.Dec.{leb}
 use lib.ListN.{length}
-use Rattle.diagram.specs.Canonical.{canonical}
+use Rattle.diagram.specs.Canonical.Computed.{canonical}
 use Rattle.table.specs.declared.Answer.{Answer}
 use Rattle.table.specs.declared.Answer.the-variants.{Done, ShortBuffer, NoNetwork, BadCells, NotCanonical}
 use Rattle.table.specs.declared.State.{State}

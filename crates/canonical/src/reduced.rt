@@ -5,9 +5,9 @@ ghost use mathlib.Core.Path.{_≡_};
 ghost use mathlib.Core.Bool.{true};
 ghost use Prim.Native.Nat.{suc, _/_, _≤_, _<_};
 ghost use lib.ListN.{length};
-ghost use Rattle.diagram.specs.Lists.{has};
-ghost use Rattle.diagram.specs.Diagram.{sameNode};
-ghost use Rattle.diagram.specs.inner.Structure.{nodeReduced};
+ghost use Rattle.lists.specs.Lists.{has};
+ghost use Rattle.diagram.specs.Networks.Diagram.{sameNode};
+ghost use Rattle.diagram.specs.Canonical.Structure.{nodeReduced};
 ghost use Rattle.lent.specs.Lent.{lentNode};
 ghost use Rattle.canonical.specs.inner.Reduced.{lentNodes, isNew, reducedNodes, slots, slotOf, Slotted};
 

@@ -7,11 +7,11 @@ ghost use mathlib.Core.List.{[], _∷_};
 ghost use Prim.Native.Nat.{ℕ, _+_, _*_, _≤_, _<_};
 ghost use lib.Dec.{T, eqb};
 ghost use lib.ListN.{length, getD, take};
-ghost use Rattle.diagram.specs.Lists.{all, firsts};
-ghost use Rattle.diagram.specs.Bound.{mostVariables, mostNodes};
-ghost use Rattle.diagram.specs.inner.Structure.{targets, allTargets, numbered};
-ghost use Rattle.lent.specs.inner.Cells.{lentCells};
+ghost use Rattle.lists.specs.Lists.{all, firsts};
+ghost use Rattle.diagram.specs.Networks.Bound.{mostVariables, mostNodes};
+ghost use Rattle.diagram.specs.Canonical.Structure.{targets, allTargets, numbered};
 ghost use Rattle.canonical.specs.inner.Walk.{arrived, arrivedAll, lentSpread, Own, isBelow, Listed, Holds, followed};
+ghost use Rattle.lent.specs.Lent.{lentCells};
 
 // The number after those of the nodes that stand at a level; Broken where they are not the next ones.
 enum Numbered {

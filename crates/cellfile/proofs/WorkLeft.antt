@@ -5,7 +5,7 @@ use mathlib.Core.Bool.{true, cond}
 use mathlib.Core.List.{List}
 use Prim.Native.Nat.{ℕ, _≤_}
 use lib.ListN.{length}
-use Rattle.diagram.proofs.Bools.{split}
+use Rattle.lists.proofs.Bools.{split}
 use Rattle.table.specs.declared.Answer.{Answer}
 use Rattle.fill.specs.Work.{workSize, zeroWork, clearedWork}
 use Rattle.fill.proofs.Calls.Answers.{cleared-zero}

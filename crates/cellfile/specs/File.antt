@@ -6,8 +6,8 @@ use mathlib.Core.List.{List, map}
 use Prim.Native.Nat.{ℕ, suc, _+_, _*_, _-_, _/_, _%_, min}
 use lib.Dec.{eqb}
 use lib.ListN.{length}
-use Rattle.diagram.specs.Lists.{upTo}
-use Rattle.diagram.specs.Diagram.{Node, Diagram}
+use Rattle.lists.specs.Lists.{upTo}
+use Rattle.diagram.specs.Networks.Diagram.{Node, Diagram}
 use Rattle.block.specs.Block.{blockSize, contentAt, wholeBlocks, byte, goodCheck, goodNumber, unusedZero, unusedBetween}
 use Rattle.table.specs.declared.Answer.{Answer}
 use Rattle.table.specs.declared.Answer.the-variants.{Done, BadLength, BadCheck, BadKind, BadContent}

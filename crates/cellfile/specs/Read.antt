@@ -6,10 +6,11 @@ use mathlib.Core.List.{List}
 use Prim.Native.Nat.{ℕ, _*_}
 use lib.Dec.{eqb, leb}
 use lib.ListN.{length}
-use Rattle.diagram.specs.Diagram.{Diagram, wellFormed}
+use Rattle.lists.specs.Written.{over}
+use Rattle.diagram.specs.Networks.Diagram.{Diagram, wellFormed}
 use Rattle.diagram.specs.Table.{Table, Solves, Fits}
 use Rattle.diagram.specs.Demands.{AsDrawn, Least}
-use Rattle.diagram.specs.Canonical.{computedTable, canonical}
+use Rattle.diagram.specs.Canonical.Computed.{computedTable, canonical}
 use Rattle.table.specs.declared.Answer.{Answer}
 use Rattle.table.specs.declared.Answer.the-variants.{Done, ShortBuffer, TooSmall, BadCells, NotCanonical}
 use Rattle.table.specs.declared.Outcome.{Outcome}
@@ -19,7 +20,7 @@ use Rattle.table.specs.Answer.{unless, unlessRefused, number, done}
 use Rattle.table.specs.State.{orderOf}
 use Rattle.table.specs.File.{fileInputs, fileOutputs, fileOrder}
 use Rattle.table.specs.Stream.{planeByte}
-use Rattle.table.specs.Calls.{planeSize, over, loadedOrder}
+use Rattle.table.specs.Calls.{planeSize, loadedOrder}
 use Rattle.fill.specs.Work.{zeroWork}
 use Rattle.fill.specs.Calls.{heldTable}
 use Rattle.lent.specs.Lent.{rootsSize}

@@ -5,7 +5,8 @@ use mathlib.Core.List.{List}
 use Prim.Native.Nat.{ℕ, suc, _+_, _*_, _-_, _/_, _%_}
 use lib.Dec.{eqb, ltb, leb}
 use lib.ListN.{length, getD}
-use Rattle.diagram.specs.Bound.{mostNodes}
+use Rattle.lists.specs.Written.{over}
+use Rattle.diagram.specs.Networks.Bound.{mostNodes}
 use Rattle.block.specs.Block.{blockSize, contentAt}
 use Rattle.block.specs.Numbers.{numberByte}
 use Rattle.block.specs.Sealed.{headed, sealed}
@@ -13,7 +14,6 @@ use Rattle.table.specs.declared.Answer.{Answer}
 use Rattle.table.specs.declared.Answer.the-variants.{ShortBuffer}
 use Rattle.table.specs.declared.State.{State}
 use Rattle.table.specs.Answer.{unless, done}
-use Rattle.table.specs.Calls.{over}
 use Rattle.fill.specs.Work.{workSize, zeroWork}
 use Rattle.lent.specs.Lent.{rootsSize}
 use Rattle.canonical.specs.Canonical.{canonicalAnswer}

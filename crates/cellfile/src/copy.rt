@@ -5,8 +5,8 @@ use lent::ROOTS;
 ghost use mathlib.Core.Path.{_≡_};
 ghost use Prim.Native.Nat.{_*_, _≤_, _<_};
 ghost use lib.ListN.{length};
+ghost use Rattle.lists.specs.Written.{over};
 ghost use Rattle.block.specs.Numbers.{numberLimit};
-ghost use Rattle.table.specs.Calls.{over};
 ghost use Rattle.lent.specs.Lent.{rootsSize};
 ghost use Rattle.cellfile.specs.File.{fileRoot, cellNumber};
 

@@ -5,13 +5,12 @@ ghost use mathlib.Core.Path.{_≡_};
 ghost use mathlib.Core.Bool.{true};
 ghost use Prim.Native.Nat.{_≤_, _<_};
 ghost use lib.ListN.{take};
-ghost use Rattle.diagram.specs.Lists.{all};
-ghost use Rattle.diagram.specs.Bound.{mostOutputs};
-ghost use Rattle.diagram.specs.Diagram.{later, refers, nodeGood, wellFormed};
+ghost use Rattle.lists.specs.Lists.{all};
+ghost use Rattle.diagram.specs.Networks.Bound.{mostOutputs};
+ghost use Rattle.diagram.specs.Networks.Diagram.{later, refers, nodeGood, wellFormed};
 ghost use Rattle.block.specs.Numbers.{numberLimit};
 ghost use Rattle.table.specs.File.{fileOutputs};
-ghost use Rattle.lent.specs.Lent.{lentNode};
-ghost use Rattle.lent.specs.inner.Cells.{lentCells};
+ghost use Rattle.lent.specs.Lent.{lentNode, lentCells};
 ghost use Rattle.cellfile.specs.File.{fileCount, fileDiagram};
 ghost use Rattle.cellfile.specs.inner.Cells.{fileCells, fileRoots};
 

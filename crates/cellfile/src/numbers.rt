@@ -6,7 +6,7 @@ use block::CONTENT_AT;
 use block::block::block_byte;
 ghost use mathlib.Core.Path.{_≡_};
 ghost use Prim.Native.Nat.{_<_, _≤_};
-ghost use Rattle.diagram.specs.Bound.{mostOutputs};
+ghost use Rattle.diagram.specs.Networks.Bound.{mostOutputs};
 ghost use Rattle.block.specs.Numbers.{numberLimit};
 ghost use Rattle.cellfile.specs.File.{blockNumbers, contentNumber, fileCount, fileRoot, cellNumber};
 

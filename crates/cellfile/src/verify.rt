@@ -16,7 +16,7 @@ ghost use mathlib.Core.Path.{_≡_};
 ghost use mathlib.Core.Bool.{true};
 ghost use Prim.Native.Nat.{_*_, _≤_, _<_};
 ghost use lib.ListN.{length};
-ghost use Rattle.diagram.specs.Bound.{mostNodes};
+ghost use Rattle.diagram.specs.Networks.Bound.{mostNodes};
 ghost use Rattle.block.specs.Numbers.{numberLimit};
 ghost use Rattle.table.specs.Answer.{done};
 ghost use Rattle.lent.specs.Lent.{rootsSize};

@@ -10,26 +10,27 @@ use native.Mathlib.Omega.{arith}
 use borrow.Author.Tests.{ltb-true, ltb-false}
 use lib.Dec.{T, eqb, eqb→eq, ltb}
 use lib.ListN.{length, getD}
-use Rattle.diagram.specs.Lists.{upTo, rowNumber, index}
+use Rattle.lists.specs.Lists.{upTo, index}
+use Rattle.lists.specs.Bits.{rowNumber}
+use Rattle.lists.proofs.Bools.{split}
+use Rattle.lists.proofs.Lists.Membership.{all-at}
+use Rattle.lists.proofs.Numbers.UpTo.{length-map-upTo, getD-map-upTo}
 use Rattle.diagram.specs.Tree.{Tree, at, full, inverted}
-use Rattle.diagram.specs.Fill.{Row}
-use Rattle.diagram.specs.Diagram.{Diagram, refers, wellFormed}
-use Rattle.diagram.specs.Network.{network, count}
-use Rattle.diagram.specs.Order.{isOrder, rowUnder}
+use Rattle.diagram.specs.Filling.Fill.{Row}
+use Rattle.diagram.specs.Networks.Diagram.{Diagram, refers, wellFormed}
+use Rattle.diagram.specs.Networks.Network.{network, count}
+use Rattle.diagram.specs.Orders.Order.{isOrder, rowUnder}
 use Rattle.diagram.specs.Table.{Table, FullyCared, reordered, filled, filledBit, networkOf, cost, Computes, Solves}
 use Rattle.diagram.specs.Demands.{AsDrawn, Least, NoneFits}
-use Rattle.diagram.proofs.Bools.{split}
-use Rattle.diagram.proofs.Lists.{all-at}
 use Rattle.diagram.proofs.Tree.{tree-ext, at-above, inverted-false}
-use Rattle.diagram.proofs.Fill.{fill-length}
-use Rattle.diagram.proofs.Kept.{kept-at}
-use Rattle.diagram.proofs.Reference.{from}
-use Rattle.diagram.proofs.Right.{network-formed, network-gives}
-use Rattle.diagram.proofs.Function.{function, Good, function-gives}
-use Rattle.diagram.proofs.Evaluate.{formed-length, formed-roots, formed-nodes, from-top}
-use Rattle.diagram.proofs.Least.{Reaches, every-at, least-trees}
-use Rattle.diagram.proofs.UpTo.{length-map-upTo, getD-map-upTo}
-use Rattle.diagram.proofs.Order.{row-of, at-reordered}
+use Rattle.diagram.proofs.Filling.Fill.{fill-length}
+use Rattle.diagram.proofs.Filling.Kept.{kept-at}
+use Rattle.diagram.proofs.Networks.Reference.{from}
+use Rattle.diagram.proofs.Networks.Right.{network-formed, network-gives}
+use Rattle.diagram.proofs.Networks.Function.{function, Good, function-gives}
+use Rattle.diagram.proofs.Networks.Evaluate.{formed-length, formed-roots, formed-nodes, from-top}
+use Rattle.diagram.proofs.Networks.Least.{Reaches, every-at, least-trees}
+use Rattle.diagram.proofs.Orders.Order.{row-of, at-reordered}
 
 module _ (inv : Bool) (t : Table) (order : List ℕ) where
   pub filled-length : length (filled inv t order) ≡ t .m

@@ -9,11 +9,12 @@ use native.Mathlib.Nat.{le-refl, le-of-lt}
 use native.Mathlib.Omega.{arith}
 use lib.Dec.{T, eqb, eqb→eq, eqb-refl}
 use lib.ListN.{length}
-use Rattle.diagram.specs.Lists.{flip, has}
+use Rattle.lists.specs.Lists.{has}
+use Rattle.lists.specs.Bits.{flip}
+use Rattle.lists.proofs.Bools.{split, of-T, to-T, and-T, and-l, and-r, or-l, or-r, or-cases, flip-flip, flip-self, beq→eq, beq-refl}
+use Rattle.lists.proofs.Lists.Membership.{Equality}
 use Rattle.diagram.specs.Tree.{Tree, leaf, node, half, at, full, halves, inverted, first, same}
-use Rattle.diagram.specs.Network.{depends, normal}
-use Rattle.diagram.proofs.Bools.{split, of-T, to-T, and-T, and-l, and-r, or-l, or-r, or-cases, flip-flip, flip-self, beq→eq, beq-refl}
-use Rattle.diagram.proofs.Lists.{Equality}
+use Rattle.diagram.specs.Networks.Network.{depends, normal}
 
 -- equality
 

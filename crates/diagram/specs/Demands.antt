@@ -6,11 +6,11 @@ use mathlib.Core.List.{List}
 use Prim.Native.Nat.{ℕ, suc, _*_, _≤_, _<_, _^_}
 use lib.Dec.{T, eqb}
 use lib.ListN.{length, getD}
-use Rattle.diagram.specs.Lists.{without}
-use Rattle.diagram.specs.Diagram.{Diagram, gives}
-use Rattle.diagram.specs.Order.{isOrder, rowUnder}
+use Rattle.lists.specs.Lists.{without}
+use Rattle.diagram.specs.Networks.Diagram.{Diagram, gives}
+use Rattle.diagram.specs.Orders.Order.{isOrder, rowUnder}
 use Rattle.diagram.specs.Table.{Table, Solves, Fits, cost}
-use Rattle.diagram.specs.Sift.{next, pass}
+use Rattle.diagram.specs.Orders.Sift.{next, pass}
 
 -- demand 2: the diagram, under the order, gives every cared row as drawn
 unfoldable pub AsDrawn : Bool → Table → List ℕ → Diagram → Type 0

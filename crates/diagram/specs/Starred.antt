@@ -6,11 +6,11 @@ use mathlib.Core.List.{List, [], _∷_, map}
 use Prim.Native.Nat.{ℕ, _^_}
 use lib.Dec.{eqb, leb}
 use lib.ListN.{length, getD}
-use Rattle.diagram.specs.Lists.{upTo, equal}
-use Rattle.diagram.specs.Fill.{Row}
-use Rattle.diagram.specs.Diagram.{Node, sameNode}
+use Rattle.lists.specs.Lists.{upTo, equal}
+use Rattle.diagram.specs.Filling.Fill.{Row}
+use Rattle.diagram.specs.Networks.Diagram.{Node, sameNode}
 use Rattle.diagram.specs.Table.{Table, filledBit, networkOf, cost}
-use Rattle.diagram.specs.Sift.{sift}
+use Rattle.diagram.specs.Orders.Sift.{sift}
 
 -- rows as the drawing board writes them: 0, 1 and -
 abbrev O : Row

@@ -6,12 +6,12 @@ use mathlib.Core.List.{List, map}
 use Prim.Native.Nat.{ℕ, _≤_, _<_, _^_}
 use lib.Dec.{T}
 use lib.ListN.{length, getD}
-use Rattle.diagram.specs.Lists.{upTo}
+use Rattle.lists.specs.Lists.{upTo}
 use Rattle.diagram.specs.Tree.{Tree, draw, at, full}
-use Rattle.diagram.specs.Fill.{Row, fill}
-use Rattle.diagram.specs.Diagram.{Diagram, wellFormed, gives}
-use Rattle.diagram.specs.Network.{network, count}
-use Rattle.diagram.specs.Order.{rowUnder, behind}
+use Rattle.diagram.specs.Filling.Fill.{Row, fill}
+use Rattle.diagram.specs.Networks.Diagram.{Diagram, wellFormed, gives}
+use Rattle.diagram.specs.Networks.Network.{network, count}
+use Rattle.diagram.specs.Orders.Order.{rowUnder, behind}
 
 -- n variables, m outputs, and the row of each output at each row number
 pub record Table : Type 0 where

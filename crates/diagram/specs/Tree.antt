@@ -4,7 +4,7 @@
 use mathlib.Core.Bool.{Bool, true, false, cond, Bool·beq, _&&_}
 use mathlib.Core.List.{List, [], _∷_}
 use Prim.Native.Nat.{ℕ, zero, suc, _+_, _*_}
-use Rattle.diagram.specs.Lists.{flip}
+use Rattle.lists.specs.Bits.{flip}
 
 pub data Tree (A : Type 0) : ℕ → Type 0 where
   leaf : A → Tree A zero

@@ -12,8 +12,8 @@ use Rattle.table.specs.declared.State.{State}
 use Rattle.table.specs.State.{stageOf, isNothing}
 use Rattle.lent.specs.Lent.{rootsSize}
 use Rattle.network.specs.Build.{wanted, networkState}
-use Rattle.network.proofs.BuiltRows.{builtCells, builtRoots, network-stage, good-built, roots-built}
-use Rattle.network.proofs.BuiltCanonical.{canonical-built}
+use Rattle.network.proofs.Building.BuiltRows.{builtCells, builtRoots, network-stage, good-built, roots-built}
+use Rattle.network.proofs.Building.BuiltCanonical.{canonical-built}
 use Rattle.canonical.specs.Canonical.{canonicalAnswer}
 
 pub answer-built : (s : State) (values care roots cells : List ℕ) → T (not (isNothing (stageOf s))) → rootsSize ≤ length roots

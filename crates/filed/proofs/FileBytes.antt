@@ -8,10 +8,10 @@ use native.Mathlib.Omega.{arith}
 use borrow.Author.Tests.{ltb-true, ltb-false}
 use lib.Dec.{eqb, ltb}
 use lib.ListN.{length, getD, List·getD-append}
-use Rattle.diagram.specs.Lists.{upTo}
-use Rattle.diagram.specs.Bound.{mostNodes}
-use Rattle.diagram.proofs.Bools.{split}
-use Rattle.diagram.proofs.UpTo.{length-map-upTo}
+use Rattle.lists.specs.Lists.{upTo}
+use Rattle.lists.proofs.Bools.{split}
+use Rattle.lists.proofs.Numbers.UpTo.{length-map-upTo}
+use Rattle.diagram.specs.Networks.Bound.{mostNodes}
 use Rattle.block.specs.Block.{blockSize, contentAt}
 use Rattle.block.specs.Numbers.{numberByte}
 use Rattle.block.specs.Sealed.{headed, sealed}

@@ -6,7 +6,7 @@ use mathlib.Core.List.{List, _++_}
 use Prim.Native.Nat.{ℕ, suc, _+_, _*_, _-_, _/_, _≤_, _<_, min}
 use native.Mathlib.Omega.{arith}
 use lib.ListN.{length, drop}
-use Rattle.diagram.specs.Bound.{mostNodes}
+use Rattle.diagram.specs.Networks.Bound.{mostNodes}
 use Rattle.block.specs.Block.{blockSize}
 use Rattle.table.specs.declared.Answer.{Answer}
 use Rattle.table.specs.declared.Outcome.{Outcome}
@@ -19,7 +19,7 @@ use Rattle.text.specs.Written.{Written}
 use Rattle.text.proofs.Writing.{written-as}
 use Rattle.printed.specs.Built.{refusedLine, Whole}
 use Rattle.printed.specs.BuiltInput.{builtOutcome, builtWork, builtRoots, builtCells}
-use Rattle.printed.proofs.WholeTexts.{written-text}
+use Rattle.printed.proofs.Texts.WholeTexts.{written-text}
 use Rattle.filed.specs.NetworkFile.{networkFileSize, networkFile}
 use Rattle.filed.specs.inner.Filed.{heldFile, outcomeFile, outcomeWork, filedText, filedWork}
 use Rattle.filed.proofs.FileBytes.{file-length}

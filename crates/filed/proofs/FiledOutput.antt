@@ -7,42 +7,31 @@ use Prim.Native.Nat.{ℕ, _*_, _≤_}
 use native.Mathlib.Omega.{arith}
 use borrow.Author.Tests.{le-leb}
 use lib.ListN.{length, getD, drop}
-use Rattle.diagram.specs.Bound.{mostNodes}
-use Rattle.diagram.specs.Diagram.{Diagram}
-use Rattle.diagram.proofs.Bools.{split, to-not}
+use Rattle.lists.specs.Written.{over}
+use Rattle.lists.proofs.Bools.{split, to-not}
+use Rattle.lists.proofs.Written.Over.{length-over, getD-over}
+use Rattle.diagram.specs.Networks.Bound.{mostNodes}
+use Rattle.diagram.specs.Networks.Diagram.{Diagram}
 use Rattle.table.specs.declared.Answer.the-variants.{Done}
 use Rattle.table.specs.Answer.{done}
 use Rattle.table.specs.File.{fileAnswer}
-use Rattle.table.specs.Calls.{planeSize, over, loadedState}
+use Rattle.table.specs.Calls.{planeSize, loadedState}
 use Rattle.table.proofs.Held.{few-outputs}
-use Rattle.table.proofs.Over.{length-over, getD-over}
 use Rattle.fill.specs.Work.{workSize, zeroWork}
 use Rattle.fill.proofs.Buffers.HeldParts.{zero-zero, length-zero}
 use Rattle.lent.specs.Lent.{numbersOf, rootsSize}
 use Rattle.lent.proofs.Sizes.{roots-size}
 use Rattle.network.specs.Build.{networkState, heldNetwork, wanted}
-use Rattle.network.proofs.HeldRead.{wanted-nodes, few-wanted}
-use Rattle.network.proofs.LevelsRead.{numbers-length}
+use Rattle.network.proofs.Building.HeldRead.{wanted-nodes, few-wanted}
+use Rattle.network.proofs.LinksRead.LevelsRead.{numbers-length}
 use Rattle.canonical.specs.Canonical.{canonicalAnswer}
 use Rattle.cellfile.specs.Write.{fileSize, writeAnswer, writeWork}
 use Rattle.printed.specs.Input.{inputAnswer}
-use Rattle.printed.specs.Built.{
-  refusedLine,
-  valuesPlane,
-  carePlane,
-  fileNetwork,
-  networkHeld,
-  outputValues,
-  outputCare,
-  outputWork,
-  outputRoots,
-  outputCells,
-  Whole,
-}
+use Rattle.printed.specs.Built.{refusedLine, valuesPlane, carePlane, fileNetwork, networkHeld, outputValues, outputCare, outputWork, outputRoots, outputCells, Whole}
 use Rattle.printed.specs.BuiltInput.{builtOutcome}
-use Rattle.printed.proofs.LoadedInput.{loaded-held}
-use Rattle.printed.proofs.BuiltFile as built
-use Rattle.printed.proofs.NeverCut.{refused-few}
+use Rattle.printed.proofs.Inputs.LoadedInput.{loaded-held}
+use Rattle.printed.proofs.Inputs.BuiltFile as built
+use Rattle.printed.proofs.Texts.NeverCut.{refused-few}
 use Rattle.filed.specs.NetworkFile.{networkFile, networkFileOf, networkOutputOf}
 use Rattle.filed.specs.inner.Filed.{heldFile, outcomeFile, outcomeWork, filedText, filedWork}
 use Rattle.filed.proofs.BuiltCanonical.{answer-built}

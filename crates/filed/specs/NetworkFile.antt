@@ -3,7 +3,7 @@
 use mathlib.Core.Bool.{cond}
 use mathlib.Core.List.{List, map}
 use Prim.Native.Nat.{ℕ, suc, _*_}
-use Rattle.diagram.specs.Lists.{upTo}
+use Rattle.lists.specs.Lists.{upTo}
 use Rattle.block.specs.Block.{blockSize}
 use Rattle.table.specs.declared.State.{State}
 use Rattle.table.specs.Answer.{done}

@@ -15,7 +15,7 @@ use table::State;
 use table::numbers::is_done;
 ghost use mathlib.Core.Path.{_≡_};
 ghost use Prim.Native.Nat.{suc, min};
-ghost use Rattle.diagram.specs.Bound.{mostNodes};
+ghost use Rattle.diagram.specs.Networks.Bound.{mostNodes};
 ghost use Rattle.cellfile.specs.File.{cellBlocks};
 ghost use Rattle.cellfile.specs.Write.{writeWork};
 ghost use Rattle.text.specs.Written.{Written};

@@ -1,3 +1,2 @@
 pub mod HeldParts
-pub mod Zeros
 pub mod Sizes

@@ -5,12 +5,13 @@ use mathlib.Core.List.{List, [], _∷_, map}
 use Prim.Native.Nat.{ℕ, zero, suc, _*_}
 use lib.Dec.{leb, eqb}
 use lib.ListN.{length, getD, take, drop}
-use Rattle.diagram.specs.Lists.{upTo}
-use Rattle.diagram.specs.Bound.{mostVariables}
+use Rattle.lists.specs.Lists.{upTo}
+use Rattle.lists.specs.Written.{splice}
+use Rattle.diagram.specs.Networks.Bound.{mostVariables}
 use Rattle.diagram.specs.Tree.{Tree}
-use Rattle.diagram.specs.Fill.{Row, level, candidates, trace}
-use Rattle.diagram.specs.Network.{counts}
-use Rattle.diagram.specs.Order.{moved}
+use Rattle.diagram.specs.Filling.Fill.{Row, level, candidates, trace}
+use Rattle.diagram.specs.Networks.Network.{counts}
+use Rattle.diagram.specs.Orders.Order.{moved}
 use Rattle.diagram.specs.Table.{Table, reordered, filled, cost}
 use Rattle.table.specs.declared.Answer.{Answer}
 use Rattle.table.specs.declared.Answer.the-variants.{Done, ShortBuffer, NoTable}
@@ -21,7 +22,6 @@ use Rattle.table.specs.State.{orderOf, stageOf, isNothing}
 use Rattle.table.specs.Calls.{planeSize}
 use Rattle.fill.specs.declared.Levels.{Levels}
 use Rattle.fill.specs.Work.{workSize, traceWork, trialsZero, zeroWork}
-use Rattle.matching.specs.Splice.{splice}
 
 -- the table in the lent bytes
 abbrev pub heldTable : State → List ℕ → List ℕ → Table

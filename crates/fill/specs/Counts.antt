@@ -6,9 +6,9 @@ use mathlib.Core.List.{List, [], _∷_, sum}
 use Prim.Native.Nat.{ℕ, _+_, _*_}
 use lib.Dec.{eqb, leb}
 use lib.ListN.{length, getD, take}
-use Rattle.diagram.specs.Bound.{mostVariables, mostOutputs}
-use Rattle.diagram.specs.Lists.{digit}
-use Rattle.block.specs.Bits.{sumBelow}
+use Rattle.lists.specs.Bits.{digit}
+use Rattle.lists.specs.Sums.{sumBelow}
+use Rattle.diagram.specs.Networks.Bound.{mostVariables, mostOutputs}
 use Rattle.table.specs.declared.Answer.the-variants.{Done, ShortBuffer}
 use Rattle.table.specs.Answer.{unless}
 use Rattle.fill.specs.declared.Levels.{Levels}

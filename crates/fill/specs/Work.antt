@@ -5,7 +5,7 @@ use mathlib.Core.List.{List, [], _∷_, _++_}
 use Prim.Native.Nat.{ℕ, _*_, _-_}
 use lib.Dec.{leb}
 use lib.ListN.{length, drop, replicate}
-use Rattle.diagram.specs.Fill.{Link}
+use Rattle.diagram.specs.Filling.Fill.{Link}
 use Rattle.matching.specs.Links.{regionSize, linkBytes}
 
 -- the bytes of the work buffer that a call uses, and where the links begin: behind two regions for the levels' entries

@@ -8,7 +8,7 @@ ghost use mathlib.Core.List.{sum};
 ghost use Prim.Native.Nat.{_+_, _*_, _≤_};
 ghost use lib.Dec.{leb};
 ghost use lib.ListN.{length, take};
-ghost use Rattle.diagram.specs.Bound.{mostVariables, mostOutputs};
+ghost use Rattle.diagram.specs.Networks.Bound.{mostVariables, mostOutputs};
 ghost use Rattle.fill.specs.Work.{workSize, linksAt};
 ghost use Rattle.fill.specs.Calls.{perLevel};
 ghost use Rattle.fill.specs.Counts.{pairDiffers, differingPairs, countsAt, linksEnd, linksFit};

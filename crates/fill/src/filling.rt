@@ -16,7 +16,7 @@ ghost use mathlib.Core.List.{[]};
 ghost use Prim.Native.Nat.{_≤_};
 ghost use lib.Dec.{T};
 ghost use lib.ListN.{length};
-ghost use Rattle.diagram.specs.Fill.{level};
+ghost use Rattle.diagram.specs.Filling.Fill.{level};
 ghost use Rattle.table.specs.State.{stageOf, isNothing};
 ghost use Rattle.fill.specs.Work.{workSize};
 ghost use Rattle.fill.specs.Calls.{drawnOutputs};

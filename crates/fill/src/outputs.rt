@@ -8,13 +8,13 @@ ghost use mathlib.Core.Path.{_≡_};
 ghost use mathlib.Core.List.{[], _∷_, map};
 ghost use Prim.Native.Nat.{_+_, _*_, _≤_, _<_};
 ghost use lib.ListN.{length, replicate};
-ghost use Rattle.diagram.specs.Lists.{upTo};
-ghost use Rattle.diagram.specs.Bound.{mostVariables, mostOutputs};
+ghost use Rattle.lists.specs.Lists.{upTo};
+ghost use Rattle.lists.specs.Written.{splice};
+ghost use Rattle.diagram.specs.Networks.Bound.{mostVariables, mostOutputs};
 ghost use Rattle.reorder.specs.Sizes.{width};
 ghost use Rattle.matching.specs.Links.{regionSize};
 ghost use Rattle.fill.specs.Work.{workSize, linksAt};
 ghost use Rattle.matching.specs.Parts.{levelParts};
-ghost use Rattle.matching.specs.Splice.{splice};
 ghost use Rattle.matching.specs.Level.{partsAt, written};
 ghost use Rattle.reorder.specs.Gather.{gatheredPart};
 

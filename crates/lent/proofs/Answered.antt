@@ -9,22 +9,21 @@ use native.Mathlib.Omega.{arith}
 use borrow.Author.Tests.{lt-ltb, le-ltb, le-leb, lt-leb, ne-eqb}
 use lib.Dec.{T, eqb, ltb, leb, leb→le}
 use lib.ListN.{length, getD, take, length-take}
-use Rattle.diagram.specs.Lists.{flip}
-use Rattle.diagram.specs.Diagram.{Node, inverts, wellFormed, gives}
-use Rattle.diagram.specs.Bound.{mostVariables, mostOutputs}
-use Rattle.diagram.specs.Order.{rowUnder}
-use Rattle.diagram.proofs.Bools.{to-T, and-l, and-r}
-use Rattle.diagram.proofs.Evaluate.{formed-roots, formed-nodes}
-use Rattle.diagram.proofs.Bits.{one-shifted}
+use Rattle.lists.specs.Bits.{flip, packed}
+use Rattle.lists.proofs.Bools.{to-T, and-l, and-r}
+use Rattle.lists.proofs.Bits.Digits.{one-shifted}
+use Rattle.diagram.specs.Networks.Diagram.{Node, inverts, wellFormed, gives}
+use Rattle.diagram.specs.Networks.Bound.{mostVariables, mostOutputs}
+use Rattle.diagram.specs.Orders.Order.{rowUnder}
+use Rattle.diagram.proofs.Networks.Evaluate.{formed-roots, formed-nodes}
 use Rattle.table.specs.declared.Answer.the-variants.{Done, ShortBuffer, NoNetwork, NoRow, BadCells}
 use Rattle.table.specs.declared.Stage.{Stage}
 use Rattle.table.specs.declared.Stage.the-variants.{Nothing, Table as AtTable, Network}
 use Rattle.table.specs.declared.State.{State}
-use Rattle.block.specs.Bits.{packed}
 use Rattle.table.specs.State.{orderOf, stageOf, isNothing, isNetwork}
 use Rattle.table.proofs.Held.{few-inputs, few-outputs, ordered}
-use Rattle.lent.specs.Lent.{lentDiagram, rootsSize}
-use Rattle.lent.specs.inner.Cells.{lentCells, Followable, Rooted, outputAt}
+use Rattle.lent.specs.Lent.{lentDiagram, rootsSize, lentCells}
+use Rattle.lent.specs.inner.Cells.{Followable, Rooted, outputAt}
 use Rattle.lent.specs.Evaluate.{goodCells, rowOutputs, evaluateAnswer}
 
 pub network-held : (t : Stage) → T (isNetwork t) → T (not (isNothing t))

@@ -9,14 +9,13 @@ use native.Mathlib.Omega.{arith}
 use borrow.Author.Tests.{ltb-true, ltb-false, lt-ltb}
 use lib.Dec.{T, ltb, leb, leb→le, le→leb, ltb→lt, lt→ltb}
 use lib.ListN.{length, getD}
-use Rattle.diagram.specs.Lists.{all, upTo}
-use Rattle.diagram.specs.Diagram.{edge, later, refers, nodeGood, wellFormed}
-use Rattle.diagram.proofs.Bools.{split, to-T, absurd-T, and-T, and-l, and-r}
-use Rattle.diagram.proofs.Numbers.{all-upTo-at, all-upTo-of}
-use Rattle.block.proofs.Elements.{all-first}
+use Rattle.lists.specs.Lists.{all, upTo}
+use Rattle.lists.proofs.Bools.{split, to-T, absurd-T, and-T, and-l, and-r}
+use Rattle.lists.proofs.Numbers.Compared.{all-upTo-at, all-upTo-of}
+use Rattle.lists.proofs.Numbers.UpTo.{all-first}
+use Rattle.diagram.specs.Networks.Diagram.{edge, later, refers, nodeGood, wellFormed}
 use Rattle.table.specs.declared.State.{State}
-use Rattle.lent.specs.Lent.{lentNode, lentDiagram}
-use Rattle.lent.specs.inner.Cells.{lentCells}
+use Rattle.lent.specs.Lent.{lentNode, lentDiagram, lentCells}
 use Rattle.lent.specs.Evaluate.{goodCells}
 use Rattle.lent.proofs.Nodes.{lent-length, all-nodes}
 use Rattle.lent.proofs.Tested.{goodNode, ownRoot, later-constant, later-past, later-own, both-tests}

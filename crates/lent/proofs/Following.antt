@@ -11,19 +11,18 @@ use lib.Bits.{bitAnd}
 use lib.Dec.{T, eqb, ltb, leb→le}
 use lib.ListN.{length, getD, take}
 use lib.Seq.{getD-take}
-use Rattle.diagram.specs.Lists.{flip, digit, bit}
-use Rattle.diagram.specs.Order.{isOrder, rowUnder}
-use Rattle.diagram.specs.Diagram.{Node, Diagram, edge, inverts, nodeAt, refers, gives}
-use Rattle.diagram.proofs.Bools.{split}
-use Rattle.diagram.proofs.Order.{order-at}
-use Rattle.diagram.proofs.Reference.{from, from-reached}
-use Rattle.diagram.proofs.Right.{from-refers}
-use Rattle.diagram.proofs.Function.{Good, node-level, node-edge, gives-constant}
-use Rattle.diagram.proofs.Evaluate.{from-top, gives-edge}
-use Rattle.block.specs.Bits.{packed}
-use Rattle.block.proofs.StreamBits.{bit-masked}
-use Rattle.lent.specs.Lent.{lentNode}
-use Rattle.lent.specs.inner.Cells.{lentCells, Levelled, levelBit}
+use Rattle.lists.specs.Bits.{flip, digit, bit, packed}
+use Rattle.lists.proofs.Bits.Masks.{bit-masked}
+use Rattle.lists.proofs.Bools.{split}
+use Rattle.diagram.specs.Orders.Order.{isOrder, rowUnder}
+use Rattle.diagram.specs.Networks.Diagram.{Node, Diagram, edge, inverts, nodeAt, refers, gives}
+use Rattle.diagram.proofs.Orders.Order.{order-at}
+use Rattle.diagram.proofs.Networks.Reference.{from, from-reached}
+use Rattle.diagram.proofs.Networks.Right.{from-refers}
+use Rattle.diagram.proofs.Networks.Function.{Good, node-level, node-edge, gives-constant}
+use Rattle.diagram.proofs.Networks.Evaluate.{from-top, gives-edge}
+use Rattle.lent.specs.Lent.{lentNode, lentCells}
+use Rattle.lent.specs.inner.Cells.{Levelled, levelBit}
 use Rattle.lent.proofs.LevelBits.{level-packed}
 use Rattle.lent.proofs.Nodes.{lent-length}
 use Rattle.lent.proofs.Tested.{node-behind}

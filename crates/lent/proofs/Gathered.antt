@@ -6,10 +6,9 @@ use Prim.Native.Nat.{ℕ, _+_, _*_, _%_, _^_, _<_}
 use native.Mathlib.Numerals.{add-one}
 use native.Mathlib.Omega.{arith}
 use lib.Pow.{pow-mono, shl-exact}
-use Rattle.diagram.specs.Lists.{digit}
-use Rattle.diagram.proofs.Bits.{digit-le}
-use Rattle.block.specs.Bits.{packed}
-use Rattle.block.proofs.Packed.{packed-lt}
+use Rattle.lists.specs.Bits.{digit, packed}
+use Rattle.lists.proofs.Bits.Digits.{digit-le}
+use Rattle.lists.proofs.Bits.Packed.{packed-lt}
 
 module _ (f : ℕ → Bool) (j total : ℕ) (so-far : total ≡ packed j f) where
   -- a bit that is 0 may be left out

@@ -5,10 +5,9 @@ use mathlib.Core.Bool.{Bool}
 use Prim.Native.Nat.{ℕ, _/_, _%_, _^_, _<_}
 use native.Mathlib.Omega.{arith}
 use lib.Bits.{bitAnd, and-mask}
-use Rattle.diagram.specs.Lists.{digit}
-use Rattle.diagram.proofs.Bits.{digit-eqb}
-use Rattle.block.specs.Bits.{packed}
-use Rattle.block.proofs.Packed.{packed-bit}
+use Rattle.lists.specs.Bits.{digit, packed}
+use Rattle.lists.proofs.Bits.Digits.{digit-eqb}
+use Rattle.lists.proofs.Bits.Packed.{packed-bit}
 use Rattle.lent.specs.inner.Cells.{levelBit}
 
 pub level-masked : (bits p : ℕ) → bitAnd (bits / 2 ^ p) 1 ≡ digit (levelBit bits p)

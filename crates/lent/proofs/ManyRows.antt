@@ -1,41 +1,32 @@
 -- What evaluating many rows answers and leaves, one test after the other, and that each answer is the row's alone.
 -- Assumes nothing.
-use mathlib.Core.Path.{_≡_, refl, sym, ap, ap₂, _∙_}
+use mathlib.Core.Path.{_≡_, refl, sym, ap, _∙_}
 use mathlib.Core.Bool.{Bool, true, false}
-use mathlib.Core.List.{List, [], _∷_, _++_, map}
-use Prim.Native.Nat.{ℕ, _+_, _≤_, _<_, _^_}
+use mathlib.Core.List.{List, _++_, map}
+use Prim.Native.Nat.{ℕ, _≤_, _<_, _^_}
 use native.Mathlib.Omega.{arith}
 use borrow.Author.Tests.{le-leb, lt-leb}
 use lib.Dec.{T, ltb, ltb→lt}
 use lib.ListN.{length, getD, drop, length-map, List·getD-append}
 use lib.Seq.{take-length}
-use Rattle.diagram.specs.Lists.{all, upTo}
-use Rattle.diagram.specs.Bound.{mostOutputs}
-use Rattle.diagram.proofs.Bools.{to-T, absurd-T, and-l, and-r}
-use Rattle.diagram.proofs.Lists.{all-at, getD-map}
-use Rattle.block.specs.Bits.{packed}
-use Rattle.block.proofs.Elements.{first-elements}
+use Rattle.lists.specs.Lists.{all, upTo}
+use Rattle.lists.specs.Bits.{packed}
+use Rattle.lists.specs.Written.{over}
+use Rattle.lists.proofs.Lists.Mapped.{map-where, map-twice}
+use Rattle.lists.proofs.Bools.{to-T, absurd-T}
+use Rattle.lists.proofs.Lists.Membership.{all-at, getD-map}
+use Rattle.lists.proofs.Numbers.UpTo.{first-elements}
+use Rattle.diagram.specs.Networks.Bound.{mostOutputs}
 use Rattle.table.specs.declared.Answer.{Answer}
 use Rattle.table.specs.declared.Answer.the-variants.{Done, ShortBuffer, ShortAnswers, NoNetwork, NoRow, BadCells}
 use Rattle.table.specs.declared.State.{State}
 use Rattle.table.specs.Answer.{value, done}
 use Rattle.table.specs.State.{stageOf, isNetwork}
-use Rattle.table.specs.Calls.{over}
 use Rattle.lent.specs.Lent.{rootsSize}
 use Rattle.lent.specs.inner.Cells.{outputAt}
 use Rattle.lent.specs.Evaluate.{goodCells, evaluateAnswer}
 use Rattle.lent.specs.Rows.{rowsAnswer, rowsAnswers, EachAlone}
 use Rattle.lent.proofs.Answered.{answer-done}
-
--- two functions that agree wherever a test holds give the same list
-map-where : (p : ℕ → Bool) (f g : ℕ → ℕ) (xs : List ℕ) → T (all p xs) → ((x : ℕ) → T (p x) → f x ≡ g x) → map f xs ≡ map g xs
-map-where p f g [] t e = refl
-map-where p f g (x ∷ xs) t e =
-    ap₂ (λ (y : ℕ) (ys : List ℕ). y ∷ ys) (e x (and-l (p x) (all p xs) t)) (map-where p f g xs (and-r (p x) (all p xs) t) e)
-
-map-twice : (f g : ℕ → ℕ) (xs : List ℕ) → map f (map g xs) ≡ map (λ x. f (g x)) xs
-map-twice f g [] = refl
-map-twice f g (x ∷ xs) = ap (λ (ys : List ℕ). f (g x) ∷ ys) (map-twice f g xs)
 
 -- the answers written one by one are those of the rows
 pub answers-all : (f : ℕ → ℕ) (rows answers : List ℕ) (i : ℕ) → i ≡ length rows

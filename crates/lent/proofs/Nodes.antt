@@ -5,12 +5,11 @@ use mathlib.Core.Bool.{Bool}
 use mathlib.Core.List.{List}
 use Prim.Native.Nat.{ℕ, _<_}
 use lib.ListN.{length, getD}
-use Rattle.diagram.specs.Lists.{all, upTo}
-use Rattle.diagram.specs.Diagram.{Node}
-use Rattle.diagram.proofs.Lists.{all-mapped}
-use Rattle.diagram.proofs.UpTo.{length-map-upTo, getD-map-upTo}
-use Rattle.lent.specs.Lent.{lentNode}
-use Rattle.lent.specs.inner.Cells.{lentCells}
+use Rattle.lists.specs.Lists.{all, upTo}
+use Rattle.lists.proofs.Lists.Membership.{all-mapped}
+use Rattle.lists.proofs.Numbers.UpTo.{length-map-upTo, getD-map-upTo}
+use Rattle.diagram.specs.Networks.Diagram.{Node}
+use Rattle.lent.specs.Lent.{lentNode, lentCells}
 
 -- the counted cells
 

@@ -8,13 +8,14 @@ use native.Mathlib.Omega.{arith}
 use lib.Dec.{T}
 use lib.ListN.{length, getD, take}
 use lib.Seq.{length-take-le, getD-take}
-use Rattle.diagram.specs.Lists.{all}
-use Rattle.diagram.specs.Diagram.{Diagram, refers, gives}
-use Rattle.diagram.specs.Order.{rowUnder}
-use Rattle.diagram.proofs.Lists.{all-at}
-use Rattle.block.specs.Bits.{packed}
-use Rattle.block.proofs.Packed.{packed-cong}
-use Rattle.lent.specs.inner.Cells.{lentCells, Followable, Rooted, levelBit, outputAt}
+use Rattle.lists.specs.Lists.{all}
+use Rattle.lists.specs.Bits.{packed}
+use Rattle.lists.proofs.Lists.Membership.{all-at}
+use Rattle.lists.proofs.Bits.Packed.{packed-cong}
+use Rattle.diagram.specs.Networks.Diagram.{Diagram, refers, gives}
+use Rattle.diagram.specs.Orders.Order.{rowUnder}
+use Rattle.lent.specs.inner.Cells.{Followable, Rooted, levelBit, outputAt}
+use Rattle.lent.specs.Lent.{lentCells}
 use Rattle.lent.proofs.Following.{packed-gives}
 
 -- each of the first m roots is the diagram's own

@@ -6,9 +6,9 @@ use mathlib.Core.Bool.{Bool, true, false, cond}
 use Prim.Native.Nat.{ℕ, zero, suc, _+_, _*_, _-_, _≤_, _<_}
 use native.Mathlib.Omega.{arith}
 use lib.Dec.{eqb}
-use Rattle.diagram.specs.Lists.{digit}
-use Rattle.diagram.specs.Diagram.{Node, edge}
-use Rattle.diagram.proofs.Bits.{eqb-digit}
+use Rattle.lists.specs.Bits.{digit}
+use Rattle.lists.proofs.Bits.Digits.{eqb-digit}
+use Rattle.diagram.specs.Networks.Diagram.{Node, edge}
 
 pub selects : (bit low high : ℕ) → bit ≤ 1 → (1 - bit) * low + bit * high ≡ cond (eqb bit 1) high low
 selects zero low high h = omega arith

@@ -8,13 +8,14 @@ use native.Mathlib.Nat.{mul-le-mul-right}
 use native.Mathlib.Omega.{arith}
 use borrow.Author.Tests.{lt-ltb}
 use lib.Pow.{high, low}
-use Rattle.diagram.specs.Fill.{Row}
+use Rattle.lists.specs.Written.{over}
+use Rattle.lists.proofs.Bits.Packed.{packed-lt}
+use Rattle.diagram.specs.Filling.Fill.{Row}
 use Rattle.diagram.specs.Table.{Table}
 use Rattle.block.specs.Bits.{streamBit}
-use Rattle.block.proofs.Packed.{packed-lt}
 use Rattle.table.specs.Stream.{planeByte}
-use Rattle.table.specs.Calls.{planeSize, over}
-use Rattle.table.proofs.PlaneBits.{packed-plane}
+use Rattle.table.specs.Calls.{planeSize}
+use Rattle.table.proofs.Planes.PlaneBits.{packed-plane}
 use Rattle.lent.specs.inner.Tabulate.{tableBit}
 use Rattle.lent.proofs.Tabulating.{byte-of-bits}
 

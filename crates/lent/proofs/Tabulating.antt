@@ -11,24 +11,24 @@ use lib.Dec.{ltb, leb, lit<}
 use lib.ListN.{length, getD, take}
 use lib.Pow.{pow-pos, shl-exact}
 use lib.Seq.{getD-take}
-use Rattle.diagram.specs.Bound.{mostOutputs}
-use Rattle.diagram.specs.Fill.{Row}
+use Rattle.lists.specs.Bits.{packed}
+use Rattle.lists.specs.Written.{over}
+use Rattle.lists.proofs.Bools.{split}
+use Rattle.diagram.specs.Networks.Bound.{mostOutputs}
+use Rattle.diagram.specs.Filling.Fill.{Row}
 use Rattle.diagram.specs.Table.{Table}
-use Rattle.diagram.specs.Diagram.{gives}
-use Rattle.diagram.specs.Order.{rowUnder}
-use Rattle.diagram.proofs.Bools.{split}
-use Rattle.block.specs.Bits.{packed}
+use Rattle.diagram.specs.Networks.Diagram.{gives}
+use Rattle.diagram.specs.Orders.Order.{rowUnder}
 use Rattle.table.specs.declared.Answer.{Answer}
 use Rattle.table.specs.declared.Answer.the-variants.{Done, ShortBuffer, NoNetwork, BadCells}
 use Rattle.table.specs.declared.State.{State}
 use Rattle.table.specs.Answer.{done}
 use Rattle.table.specs.State.{orderOf, stageOf, isNetwork}
 use Rattle.table.specs.Stream.{planeByte}
-use Rattle.table.specs.Calls.{planeSize, over}
-use Rattle.lent.specs.Lent.{lentDiagram, rootsSize}
+use Rattle.table.specs.Calls.{planeSize}
+use Rattle.lent.specs.Lent.{lentDiagram, rootsSize, lentCells}
 use Rattle.lent.specs.Evaluate.{goodCells}
 use Rattle.lent.specs.Tabulate.{tabulateAnswer, lentTable, tabulateValues, tabulateCare}
-use Rattle.lent.specs.inner.Cells.{lentCells}
 use Rattle.lent.specs.inner.Tabulate.{tableBit, onesByte}
 use Rattle.lent.proofs.Answered.{gives-roots}
 

@@ -9,12 +9,11 @@ use borrow.Author.Tests.{lt-ltb, le-ltb, le-leb, lt-leb, eq-eqb}
 use lib.Dec.{ltb}
 use lib.ListN.{length, getD, take}
 use lib.Seq.{length-take-le}
-use Rattle.diagram.specs.Lists.{all, upTo}
-use Rattle.diagram.specs.Diagram.{later, refers, nodeAt, nodeGood, wellFormed}
-use Rattle.diagram.proofs.Numbers.{all-upTo-fails, all-upTo-more}
-use Rattle.block.proofs.Elements.{all-first}
-use Rattle.lent.specs.Lent.{lentNode, lentDiagram}
-use Rattle.lent.specs.inner.Cells.{lentCells}
+use Rattle.lists.specs.Lists.{all, upTo}
+use Rattle.lists.proofs.Numbers.Compared.{all-upTo-fails, all-upTo-more}
+use Rattle.lists.proofs.Numbers.UpTo.{all-first}
+use Rattle.diagram.specs.Networks.Diagram.{later, refers, nodeAt, nodeGood, wellFormed}
+use Rattle.lent.specs.Lent.{lentNode, lentDiagram, lentCells}
 use Rattle.lent.proofs.Nodes.{lent-length, lent-at, all-nodes}
 
 -- cell i, from 0, and root j, by their tests

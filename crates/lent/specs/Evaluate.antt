@@ -5,13 +5,13 @@ use mathlib.Core.List.{List}
 use Prim.Native.Nat.{ℕ, _/_, _^_}
 use lib.Dec.{ltb, leb}
 use lib.ListN.{length, getD}
-use Rattle.diagram.specs.Diagram.{wellFormed, gives}
-use Rattle.diagram.specs.Order.{rowUnder}
+use Rattle.lists.specs.Bits.{packed}
+use Rattle.diagram.specs.Networks.Diagram.{wellFormed, gives}
+use Rattle.diagram.specs.Orders.Order.{rowUnder}
 use Rattle.table.specs.declared.Answer.{Answer}
 use Rattle.table.specs.declared.Answer.the-variants.{Done, ShortBuffer, NoNetwork, NoRow, BadCells}
 use Rattle.table.specs.declared.State.{State}
 use Rattle.table.specs.Answer.{unless}
-use Rattle.block.specs.Bits.{packed}
 use Rattle.table.specs.State.{orderOf, stageOf, isNetwork}
 use Rattle.lent.specs.Lent.{lentDiagram, rootsSize}
 

@@ -3,9 +3,9 @@
 use mathlib.Core.List.{List, [], _∷_, map}
 use Prim.Native.Nat.{ℕ, _+_, _*_}
 use lib.ListN.{getD, take}
-use Rattle.diagram.specs.Lists.{upTo}
-use Rattle.diagram.specs.Bound.{mostOutputs}
-use Rattle.diagram.specs.Diagram.{Node, Diagram}
+use Rattle.lists.specs.Lists.{upTo}
+use Rattle.diagram.specs.Networks.Bound.{mostOutputs}
+use Rattle.diagram.specs.Networks.Diagram.{Node, Diagram}
 
 -- 'cells of three 16-bit numbers': cell i, from 0
 abbrev pub lentNode : List ℕ → ℕ → Node
@@ -23,3 +23,7 @@ numbersOf (c ∷ cs) = c .level ∷ c .low ∷ c .high ∷ numbersOf cs
 -- how many roots are lent: '16 roots'; src/lib.rt has the constant, ROOTS
 unfoldable pub rootsSize : ℕ
 rootsSize = mostOutputs
+
+-- a test of a cell, and what a row gives at a reference, look at the nodes alone
+unfoldable pub lentCells : ℕ → List ℕ → Diagram
+lentCells count cells = record { nodes = map (lentNode cells) (upTo count); roots = [] }

@@ -6,7 +6,7 @@ use mathlib.Core.List.{List, _++_, map}
 use Prim.Native.Nat.{ℕ, _<_, _^_}
 use lib.Dec.{ltb, leb}
 use lib.ListN.{length, getD, drop}
-use Rattle.diagram.specs.Lists.{all}
+use Rattle.lists.specs.Lists.{all}
 use Rattle.table.specs.declared.Answer.{Answer}
 use Rattle.table.specs.declared.Answer.the-variants.{Done, ShortBuffer, ShortAnswers, NoNetwork, NoRow, BadCells}
 use Rattle.table.specs.declared.State.{State}

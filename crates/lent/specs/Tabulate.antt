@@ -5,15 +5,16 @@ use mathlib.Core.List.{List}
 use Prim.Native.Nat.{ℕ}
 use lib.Dec.{leb}
 use lib.ListN.{length}
+use Rattle.lists.specs.Written.{over}
 use Rattle.diagram.specs.Table.{Table}
-use Rattle.diagram.specs.Canonical.{computedTable}
+use Rattle.diagram.specs.Canonical.Computed.{computedTable}
 use Rattle.table.specs.declared.Answer.{Answer}
 use Rattle.table.specs.declared.Answer.the-variants.{Done, ShortBuffer, NoNetwork, BadCells}
 use Rattle.table.specs.declared.State.{State}
 use Rattle.table.specs.Answer.{unless, done}
 use Rattle.table.specs.State.{orderOf, stageOf, isNetwork}
 use Rattle.table.specs.Stream.{planeByte}
-use Rattle.table.specs.Calls.{planeSize, over}
+use Rattle.table.specs.Calls.{planeSize}
 use Rattle.lent.specs.Lent.{lentDiagram, rootsSize}
 use Rattle.lent.specs.Evaluate.{goodCells}
 

@@ -5,11 +5,10 @@ ghost use mathlib.Core.Path.{_≡_};
 ghost use mathlib.Core.Bool.{true};
 ghost use Prim.Native.Nat.{_/_, _≤_, _<_};
 ghost use lib.ListN.{length, take};
-ghost use Rattle.diagram.specs.Lists.{all};
-ghost use Rattle.diagram.specs.Diagram.{later, refers, nodeGood, wellFormed};
-ghost use Rattle.lent.specs.Lent.{lentNode, lentDiagram};
+ghost use Rattle.lists.specs.Lists.{all};
+ghost use Rattle.diagram.specs.Networks.Diagram.{later, refers, nodeGood, wellFormed};
+ghost use Rattle.lent.specs.Lent.{lentNode, lentDiagram, lentCells};
 ghost use Rattle.lent.specs.Evaluate.{goodCells};
-ghost use Rattle.lent.specs.inner.Cells.{lentCells};
 
 // Whether a reference is a constant, or to a counted cell at a level after p.
 fn later_than(cells: &[u16], count: usize, p: usize, r: usize) -> bool

@@ -6,12 +6,12 @@ ghost use mathlib.Core.Bool.{true, cond};
 ghost use Prim.Native.Nat.{_≤_, _<_};
 ghost use lib.Dec.{T, eqb};
 ghost use lib.ListN.{length, getD, take};
-ghost use Rattle.diagram.specs.Lists.{flip, digit};
-ghost use Rattle.diagram.specs.Diagram.{edge, nodeAt, refers, gives};
-ghost use Rattle.diagram.specs.Bound.{mostVariables};
-ghost use Rattle.diagram.specs.Order.{isOrder, rowUnder};
-ghost use Rattle.lent.specs.inner.Cells.{lentCells, Followable, Levelled, levelBit, Rooted, outputAt};
-ghost use Rattle.block.specs.Bits.{packed};
+ghost use Rattle.lists.specs.Bits.{flip, digit, packed};
+ghost use Rattle.diagram.specs.Networks.Diagram.{edge, nodeAt, refers, gives};
+ghost use Rattle.diagram.specs.Networks.Bound.{mostVariables};
+ghost use Rattle.diagram.specs.Orders.Order.{isOrder, rowUnder};
+ghost use Rattle.lent.specs.inner.Cells.{Followable, Levelled, levelBit, Rooted, outputAt};
+ghost use Rattle.lent.specs.Lent.{lentCells};
 
 // A bit, inverted where i is true.
 fn flipped(i: bool, b: bool) -> bool

@@ -13,7 +13,7 @@ ghost use mathlib.Core.Bool.{true};
 ghost use mathlib.Core.List.{map, _++_};
 ghost use Prim.Native.Nat.{_≤_};
 ghost use lib.ListN.{length, drop};
-ghost use Rattle.block.specs.Bits.{packed};
+ghost use Rattle.lists.specs.Bits.{packed};
 ghost use Rattle.table.specs.Answer.{done};
 ghost use Rattle.lent.specs.inner.Cells.{Followable, Rooted, outputAt};
 ghost use Rattle.lent.specs.Rows.{rowsAnswer, rowsAnswers, EachAlone};

@@ -11,9 +11,10 @@ use table::valid::holds_network;
 ghost use mathlib.Core.Path.{_≡_};
 ghost use Prim.Native.Nat.{_≤_, _<_};
 ghost use lib.ListN.{length};
+ghost use Rattle.lists.specs.Written.{over};
 ghost use Rattle.table.specs.Stream.{planeByte};
-ghost use Rattle.table.specs.Calls.{planeSize, over};
-ghost use Rattle.table.specs.inner.Sizes.{mostBits};
+ghost use Rattle.table.specs.Calls.{planeSize};
+ghost use Rattle.table.specs.Sizes.{mostBits};
 ghost use Rattle.lent.specs.Tabulate.{tabulateAnswer, lentTable, tabulateValues, tabulateCare};
 ghost use Rattle.lent.specs.inner.Tabulate.{Evaluable, tableBit, onesByte};
 

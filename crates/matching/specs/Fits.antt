@@ -3,7 +3,7 @@
 use mathlib.Core.Bool.{Bool, _&&_, _||_}
 use Prim.Native.Nat.{ℕ, suc, _+_, _*_}
 use lib.Dec.{leb, ltb, eqb}
-use Rattle.diagram.specs.Bound.{mostVariables}
+use Rattle.diagram.specs.Networks.Bound.{mostVariables}
 use Rattle.reorder.specs.Sizes.{width}
 use Rattle.matching.specs.Links.{regionSize, wordSize}
 

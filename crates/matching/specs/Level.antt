@@ -3,10 +3,10 @@
 use mathlib.Core.List.{List}
 use Prim.Native.Nat.{ℕ, _+_}
 use lib.ListN.{take, drop}
+use Rattle.lists.specs.Written.{splice}
 use Rattle.reorder.specs.Sizes.{width}
 use Rattle.matching.specs.Parts.{LevelParts, chunks, flat}
 use Rattle.matching.specs.Links.{linkBytes}
-use Rattle.matching.specs.Splice.{splice}
 
 -- the part of an entry of d variables at byte a, and k parts from there on
 abbrev pub partAt : ℕ → ℕ → List ℕ → List ℕ

@@ -1,5 +1,4 @@
 pub mod Links
-pub mod Splice
 pub mod Bytes
 pub mod Parts
 pub mod Level

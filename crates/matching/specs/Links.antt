@@ -2,8 +2,8 @@
 -- Assumes nothing.
 use mathlib.Core.List.{List, [], _∷_}
 use Prim.Native.Nat.{ℕ, suc, _+_, _*_, _/_, _%_}
-use Rattle.diagram.specs.Lists.{digit}
-use Rattle.diagram.specs.Fill.{Link, const, entry}
+use Rattle.lists.specs.Bits.{digit}
+use Rattle.diagram.specs.Filling.Fill.{Link, const, entry}
 
 abbrev pub regionSize : ℕ
 regionSize = 4096

@@ -7,8 +7,9 @@ use Prim.Native.Nat.{ℕ, zero, suc, _+_, _*_, _/_, _%_, _^_}
 use lib.Dec.{ltb}
 use lib.Bits.{bitOr}
 use lib.ListN.{getD, take, drop}
-use Rattle.diagram.specs.Lists.{digit, all, upTo}
-use Rattle.diagram.specs.Fill.{Link, const, entry}
+use Rattle.lists.specs.Lists.{all, upTo}
+use Rattle.lists.specs.Bits.{digit}
+use Rattle.diagram.specs.Filling.Fill.{Link, const, entry}
 use Rattle.reorder.specs.Sizes.{width}
 use Rattle.matching.specs.Bytes.{alwaysByte, agreeByte, mergeByte}
 

@@ -2,7 +2,7 @@
 ghost use mathlib.Core.Path.{_≡_};
 ghost use Prim.Native.Nat.{_+_, _≤_};
 ghost use lib.ListN.{length};
-ghost use Rattle.matching.specs.Splice.{splice};
+ghost use Rattle.lists.specs.Written.{splice};
 
 // Copies all of x over as many bytes of l, from byte k on.
 pub(crate) fn copy_to(x: &[u8], l: &mut [u8], k: usize)

@@ -5,10 +5,10 @@ ghost use mathlib.Core.Path.{_≡_};
 ghost use mathlib.Core.List.{map};
 ghost use Prim.Native.Nat.{suc, _+_, _*_, _^_, _≤_, _<_};
 ghost use lib.ListN.{length, take, drop};
-ghost use Rattle.diagram.specs.Bound.{mostVariables};
+ghost use Rattle.lists.specs.Written.{splice};
+ghost use Rattle.diagram.specs.Networks.Bound.{mostVariables};
 ghost use Rattle.reorder.specs.Sizes.{width};
 ghost use Rattle.matching.specs.Parts.{flat};
-ghost use Rattle.matching.specs.Splice.{splice};
 ghost use Rattle.matching.specs.Level.{partsAt};
 ghost use Rattle.matching.specs.Exchange.{joinByte, pairedByte, exchangedByte, exchangedPlane, exchangedPart};
 

@@ -6,7 +6,7 @@ use reorder::width::width_of;
 ghost use mathlib.Core.Path.{_≡_};
 ghost use Prim.Native.Nat.{_+_, _*_, _<_};
 ghost use lib.Dec.{leb};
-ghost use Rattle.diagram.specs.Bound.{mostVariables};
+ghost use Rattle.diagram.specs.Networks.Bound.{mostVariables};
 ghost use Rattle.matching.specs.Fits.{regionsApart, regionFits, regionsFit, countFits, levelFits, candidateFits, partsFit};
 
 // Whether count blocks of size bytes each, the first of them at byte at, end at byte end or before it.

@@ -5,8 +5,8 @@ ghost use mathlib.Core.Path.{_≡_};
 ghost use mathlib.Core.List.{_++_};
 ghost use Prim.Native.Nat.{suc, _+_, _*_, _-_, _^_, _≤_, _<_};
 ghost use lib.ListN.{length, drop};
-ghost use Rattle.diagram.specs.Lists.{digit};
-ghost use Rattle.diagram.specs.Bound.{mostVariables};
+ghost use Rattle.lists.specs.Bits.{digit};
+ghost use Rattle.diagram.specs.Networks.Bound.{mostVariables};
 ghost use Rattle.reorder.specs.Sizes.{width};
 ghost use Rattle.matching.specs.Parts.{halfByte, halfPart};
 

@@ -12,7 +12,7 @@ ghost use mathlib.Core.Logic.{_⊎_};
 ghost use mathlib.Core.List.{[], _∷_, _++_};
 ghost use Prim.Native.Nat.{suc, _+_, _*_, _≤_, _<_};
 ghost use lib.ListN.{length, drop};
-ghost use Rattle.diagram.specs.Bound.{mostVariables};
+ghost use Rattle.diagram.specs.Networks.Bound.{mostVariables};
 ghost use Rattle.reorder.specs.Sizes.{width, partSize};
 ghost use Rattle.matching.specs.Links.{regionSize, wordSize};
 ghost use Rattle.matching.specs.Parts.{levelParts, unitedOr, halfPart, offeredParts};

@@ -7,10 +7,10 @@ ghost use mathlib.Core.Path.{_≡_};
 ghost use mathlib.Core.List.{[], _∷_};
 ghost use Prim.Native.Nat.{_+_, _*_, _/_, _%_, _≤_};
 ghost use lib.ListN.{length, getD};
-ghost use Rattle.diagram.specs.Bound.{mostVariables};
+ghost use Rattle.lists.specs.Written.{splice};
+ghost use Rattle.diagram.specs.Networks.Bound.{mostVariables};
 ghost use Rattle.reorder.specs.Sizes.{width};
 ghost use Rattle.matching.specs.Links.{regionSize, wordSize};
-ghost use Rattle.matching.specs.Splice.{splice};
 ghost use Rattle.matching.specs.Parts.{levelParts};
 ghost use Rattle.matching.specs.Level.{partsAt, written};
 

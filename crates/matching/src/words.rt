@@ -2,8 +2,8 @@
 ghost use mathlib.Core.Path.{_≡_};
 ghost use Prim.Native.Nat.{_+_, _≤_};
 ghost use lib.ListN.{length, take, drop};
+ghost use Rattle.lists.specs.Written.{splice};
 ghost use Rattle.matching.specs.Bytes.{mergeByte};
-ghost use Rattle.matching.specs.Splice.{splice};
 ghost use Rattle.matching.specs.inner.Words.{wordSize, wordOf, bytesOf};
 
 // The bytes of a word; specs/Links.antt has the definition, `wordSize`.

@@ -6,7 +6,8 @@ use mathlib.Core.List.{List, _++_}
 use Prim.Native.Nat.{ℕ, _*_, _/_}
 use lib.Dec.{eqb, leb}
 use lib.ListN.{length, getD, drop}
-use Rattle.diagram.specs.Diagram.{Diagram}
+use Rattle.lists.specs.Written.{over}
+use Rattle.diagram.specs.Networks.Diagram.{Diagram}
 use Rattle.diagram.specs.Table.{networkOf, cost, Solves, Fits}
 use Rattle.diagram.specs.Demands.{AsDrawn, Least}
 use Rattle.table.specs.declared.Answer.{Answer}
@@ -16,7 +17,7 @@ use Rattle.table.specs.declared.State.{State}
 use Rattle.table.specs.declared.Stage.the-variants.{Network}
 use Rattle.table.specs.Answer.{unless, done, number, value}
 use Rattle.table.specs.State.{orderOf, stageOf, isNothing}
-use Rattle.table.specs.Calls.{planeSize, over}
+use Rattle.table.specs.Calls.{planeSize}
 use Rattle.fill.specs.Work.{workSize, zeroWork}
 use Rattle.fill.specs.Calls.{heldTable}
 use Rattle.lent.specs.Lent.{numbersOf, rootsSize}

@@ -7,9 +7,9 @@ use Prim.Native.Nat.{ℕ, zero, suc, _+_, _*_, _-_, _/_, _%_}
 use lib.Dec.{eqb, ltb}
 use lib.ListN.{getD, set}
 use lib.Seq.{sets}
-use Rattle.diagram.specs.Diagram.{inverts, opposite}
-use Rattle.diagram.specs.Network.{reference}
-use Rattle.block.specs.Bits.{sumBelow}
+use Rattle.lists.specs.Sums.{sumBelow}
+use Rattle.diagram.specs.Networks.Diagram.{inverts, opposite}
+use Rattle.diagram.specs.Networks.Network.{reference}
 use Rattle.fill.specs.Work.{linksAt}
 use Rattle.fill.specs.Counts.{linkAt}
 

@@ -6,10 +6,10 @@ use mathlib.Core.List.{List}
 use Prim.Native.Nat.{ℕ}
 use lib.Dec.{leb}
 use lib.ListN.{length}
+use Rattle.lists.specs.Written.{over}
 use Rattle.table.specs.declared.Answer.{Answer}
 use Rattle.table.specs.declared.Answer.the-variants.{ShortBuffer, TooSmall}
 use Rattle.table.specs.Answer.{unless, unlessRefused, done, value}
-use Rattle.table.specs.Calls.{over}
 use Rattle.fill.specs.Work.{zeroWork}
 use Rattle.fill.specs.Counts.{linkedLevels}
 use Rattle.lent.specs.Lent.{rootsSize}

@@ -3,7 +3,7 @@ use block::bits::number_at;
 ghost use mathlib.Core.Path.{_≡_};
 ghost use Prim.Native.Nat.{_+_, _*_, _<_, _≤_};
 ghost use lib.ListN.{length};
-ghost use Rattle.diagram.specs.Diagram.{opposite};
+ghost use Rattle.diagram.specs.Networks.Diagram.{opposite};
 ghost use Rattle.fill.specs.Work.{workSize};
 ghost use Rattle.network.specs.Levels.{storedLimit, storedAt, putStored, refAt};
 

@@ -1,13 +1,3 @@
-pub mod InputCases
-pub mod LoadedInput
-pub mod BuiltCases
-pub mod BoardEnough
-pub mod WholeTexts
-pub mod BuiltFile
-pub mod OutputCases
-pub mod SmallNumbers
-pub mod TextLength
-pub mod NeverCut
 pub mod Sizes
-pub mod FileText
-pub mod FileOutput
+pub mod Inputs
+pub mod Texts

@@ -6,14 +6,15 @@ use mathlib.Core.Bool.{true, cond}
 use mathlib.Core.List.{List, [], _∷_, _++_}
 use Prim.Native.Nat.{ℕ, _+_, _*_}
 use lib.ListN.{length, getD, drop}
-use Rattle.diagram.specs.Diagram.{Diagram}
+use Rattle.lists.specs.Written.{over}
+use Rattle.diagram.specs.Networks.Diagram.{Diagram}
 use Rattle.diagram.specs.Table.{networkOf}
 use Rattle.table.specs.declared.Answer.{Answer}
 use Rattle.table.specs.declared.State.{State}
 use Rattle.table.specs.Answer.{number, done}
 use Rattle.table.specs.Stream.{tableOf}
 use Rattle.table.specs.File.{fileInputs, fileOutputs, fileOrder, streamBlocks}
-use Rattle.table.specs.Calls.{over, loadedState, loadedPlane}
+use Rattle.table.specs.Calls.{loadedState, loadedPlane}
 use Rattle.fill.specs.Work.{zeroWork}
 use Rattle.lent.specs.Lent.{numbersOf, rootsSize}
 use Rattle.network.specs.Build.{networkState}

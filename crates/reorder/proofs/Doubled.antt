@@ -12,12 +12,12 @@ use lib.Dec.{ltb}
 use lib.ListN.{length, getD, take, drop, replicate, length-drop, take-append-drop}
 use lib.Pow.{pow-mono}
 use lib.Seq.{ext-getD, getD-drop}
-use Rattle.diagram.specs.Lists.{upTo}
-use Rattle.diagram.specs.Bound.{mostVariables}
-use Rattle.diagram.specs.Order.{behind}
-use Rattle.diagram.proofs.Bools.{split}
-use Rattle.diagram.proofs.UpTo.{length-map-upTo, getD-map-upTo, take-map-upTo, map-upTo-cong, upTo-drop}
-use Rattle.table.proofs.Filled.{filled}
+use Rattle.lists.specs.Lists.{upTo}
+use Rattle.lists.proofs.Bools.{split}
+use Rattle.lists.proofs.Numbers.UpTo.{length-map-upTo, getD-map-upTo, take-map-upTo, map-upTo-cong, upTo-drop}
+use Rattle.lists.proofs.Written.Filled.{filled}
+use Rattle.diagram.specs.Networks.Bound.{mostVariables}
+use Rattle.diagram.specs.Orders.Order.{behind}
 use Rattle.reorder.specs.Sizes.{mostRows}
 use Rattle.reorder.specs.inner.Rows.{rowShares}
 use Rattle.reorder.proofs.RowBits.{behind-zero, behind-over, behind-lt}

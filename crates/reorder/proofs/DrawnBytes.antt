@@ -7,13 +7,13 @@ use Prim.Native.Nat.{ℕ, zero, suc, _+_, _*_, _^_, _≤_, min}
 use native.Mathlib.Nat.{not-suc-le-zero, add-zero, zero-add, add-suc, mul-zero, two-pow-succ, min-eq-left, min-eq-right, le-of-lt}
 use native.Mathlib.Omega.{arith}
 use lib.Pow.{pow-add, pow-mono}
-use Rattle.diagram.specs.Lists.{digit, upTo}
+use Rattle.lists.specs.Lists.{upTo}
+use Rattle.lists.specs.Bits.{digit, packed}
+use Rattle.lists.proofs.Numbers.UpTo.{map-upTo-cong, map-upTo-add}
+use Rattle.lists.proofs.Bits.Packed.{packed-cong}
 use Rattle.diagram.specs.Tree.{draw}
-use Rattle.diagram.proofs.UpTo.{map-upTo-cong, map-upTo-add}
 use Rattle.reorder.specs.Sizes.{width}
-use Rattle.reorder.specs.inner.Pack.{num, pack}
-use Rattle.block.specs.Bits.{packed}
-use Rattle.block.proofs.Packed.{packed-cong}
+use Rattle.reorder.specs.Pack.{num, pack}
 use Rattle.reorder.proofs.Pack.{width-small, width-suc, width-rows, by-width, pack-small, pack-node}
 
 pub gathered-add : (m n : ℕ) (f : ℕ → Bool) → packed (m + n) f ≡ packed n (λ b. f (m + b)) * 2 ^ m + packed m f

@@ -9,19 +9,20 @@ use borrow.Author.Tests.{lt-ltb, le-ltb, lt-leb, le-leb}
 use lib.Dec.{ltb}
 use lib.ListN.{length, getD, take, drop, replicate, length-append, length-replicate, getD-replicate}
 use lib.Seq.{ext-getD, take-at}
-use Rattle.diagram.specs.Lists.{upTo}
-use Rattle.diagram.specs.Bound.{mostVariables, mostOutputs}
-use Rattle.diagram.specs.Order.{behind}
+use Rattle.lists.specs.Lists.{upTo}
+use Rattle.lists.specs.Bits.{packed}
+use Rattle.lists.proofs.Numbers.UpTo.{map-upTo-cong, getD-map-upTo, length-map-upTo}
+use Rattle.lists.proofs.Bits.Packed.{packed-cong}
+use Rattle.lists.proofs.Written.Filled.{filled}
+use Rattle.diagram.specs.Networks.Bound.{mostVariables, mostOutputs}
+use Rattle.diagram.specs.Orders.Order.{behind}
 use Rattle.diagram.specs.Tree.{draw}
-use Rattle.diagram.specs.Fill.{Row}
+use Rattle.diagram.specs.Filling.Fill.{Row}
 use Rattle.diagram.specs.Table.{reordered}
-use Rattle.diagram.proofs.UpTo.{map-upTo-cong, getD-map-upTo, length-map-upTo}
-use Rattle.block.specs.Bits.{streamBit, packed}
-use Rattle.block.proofs.Packed.{packed-cong}
+use Rattle.block.specs.Bits.{streamBit}
 use Rattle.table.specs.Stream.{tableOf}
-use Rattle.table.proofs.Filled.{filled}
 use Rattle.reorder.specs.Sizes.{width, mostRows, partSize}
-use Rattle.reorder.specs.inner.Pack.{pack, encode}
+use Rattle.reorder.specs.Pack.{pack, encode}
 use Rattle.reorder.specs.Gather.{rowMap, gatheredPlane, gatheredPart, outputPart}
 use Rattle.reorder.proofs.DrawnBytes.{draw-bytes}
 use Rattle.reorder.proofs.Shifts.{rows-room, byte-within}

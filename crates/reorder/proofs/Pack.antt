@@ -11,12 +11,12 @@ use lib.Arith.{digits-lt, le→nltb}
 use lib.Dec.{ltb, ltb→lt, lt→ltb, nltb→le}
 use lib.ListN.{length, length-append}
 use lib.Pow.{pow-add}
+use Rattle.lists.proofs.Bools.{split, of-T, of-not, to-T, to-not}
+use Rattle.lists.proofs.Bits.Digits.{digit-le}
 use Rattle.diagram.specs.Tree.{Tree, leaf, node}
-use Rattle.diagram.specs.Fill.{Row}
-use Rattle.diagram.proofs.Bools.{split, of-T, of-not, to-T, to-not}
-use Rattle.diagram.proofs.Bits.{digit-le}
+use Rattle.diagram.specs.Filling.Fill.{Row}
 use Rattle.reorder.specs.Sizes.{width}
-use Rattle.reorder.specs.inner.Pack.{num, pack, encode}
+use Rattle.reorder.specs.Pack.{num, pack, encode}
 
 -- how many bytes: one up to three variables, from there on twice as many for each variable more
 

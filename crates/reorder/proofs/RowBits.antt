@@ -9,12 +9,13 @@ use native.Mathlib.Omega.{arith}
 use borrow.Author.Tests.{eqb-true, ltb-true, ltb-false}
 use lib.Dec.{eqb, ltb}
 use lib.Pow.{pow-pos, pow-mono, high, low}
-use Rattle.diagram.specs.Lists.{digit, index, rowNumber, bit}
-use Rattle.diagram.specs.Order.{behind}
-use Rattle.diagram.proofs.Bools.{split}
-use Rattle.diagram.proofs.Bits.{digit-eqb, number-lt}
-use Rattle.diagram.proofs.Numbers.{differ}
-use Rattle.block.proofs.Words.{low-bit}
+use Rattle.lists.specs.Lists.{index}
+use Rattle.lists.specs.Bits.{digit, rowNumber, bit}
+use Rattle.lists.proofs.Bits.Ones.{low-bit}
+use Rattle.lists.proofs.Bools.{split}
+use Rattle.lists.proofs.Bits.Digits.{digit-eqb, number-lt}
+use Rattle.lists.proofs.Numbers.Compared.{differ}
+use Rattle.diagram.specs.Orders.Order.{behind}
 
 -- bit q of a number with bit l above others
 module _ (l s : ℕ) (h : s < 2 ^ l) where

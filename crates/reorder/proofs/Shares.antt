@@ -12,13 +12,14 @@ use lib.Dec.{eqb, lit<}
 use lib.ListN.{length, getD, take, set, replicate, length-set}
 use lib.Pow.{pow-mono, shl-lt, shl-exact}
 use lib.Seq.{ext-getD, getD-set-same, getD-set-other}
-use Rattle.diagram.specs.Lists.{digit, index, upTo, rowNumber, bit}
-use Rattle.diagram.specs.Bound.{mostVariables}
-use Rattle.diagram.specs.Order.{behind}
-use Rattle.diagram.proofs.Bools.{split}
-use Rattle.diagram.proofs.Bits.{number-lt}
-use Rattle.diagram.proofs.Numbers.{differ}
-use Rattle.diagram.proofs.UpTo.{length-map-upTo, getD-map-upTo, map-upTo-cong}
+use Rattle.lists.specs.Lists.{index, upTo}
+use Rattle.lists.specs.Bits.{digit, rowNumber, bit}
+use Rattle.lists.proofs.Bools.{split}
+use Rattle.lists.proofs.Bits.Digits.{number-lt}
+use Rattle.lists.proofs.Numbers.Compared.{differ}
+use Rattle.lists.proofs.Numbers.UpTo.{length-map-upTo, getD-map-upTo, map-upTo-cong}
+use Rattle.diagram.specs.Networks.Bound.{mostVariables}
+use Rattle.diagram.specs.Orders.Order.{behind}
 use Rattle.reorder.specs.inner.Rows.{rowShares}
 use Rattle.reorder.proofs.RowBits.{digit-one}
 

@@ -7,9 +7,9 @@ use native.Mathlib.Nat.{lt-of-lt-of-le, min-eq-left, min-eq-right, le-of-lt}
 use native.Mathlib.Omega.{arith}
 use borrow.Author.Tests.{le-leb, lt-leb}
 use lib.Pow.{pow-add, pow-mono, shl-lt}
-use Rattle.diagram.specs.Bound.{mostVariables, mostOutputs}
-use Rattle.diagram.proofs.Bits.{one-shifted}
-use Rattle.table.proofs.Answers.{shifted-out}
+use Rattle.lists.proofs.Bits.Digits.{one-shifted}
+use Rattle.diagram.specs.Networks.Bound.{mostVariables, mostOutputs}
+use Rattle.table.proofs.Files.Answers.{shifted-out}
 use Rattle.reorder.specs.Sizes.{width, widthUpTo, mostRows, partSize}
 use Rattle.reorder.proofs.Pack.{width-small, width-rows, by-width}
 

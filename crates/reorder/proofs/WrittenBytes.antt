@@ -8,8 +8,8 @@ use native.Mathlib.Numerals.{add-one}
 use native.Mathlib.Omega.{arith}
 use lib.ListN.{length, getD, take, drop, set, length-append, length-drop, take-append-drop, List·getD-append}
 use lib.Seq.{length-take-le, drop-cons, set-at, set-append-left, take-set-lt, drop-set-lt, take-at, drop-append-add, drop-drop, getD-take}
-use Rattle.diagram.specs.Lists.{upTo}
-use Rattle.diagram.proofs.UpTo.{length-map-upTo}
+use Rattle.lists.specs.Lists.{upTo}
+use Rattle.lists.proofs.Numbers.UpTo.{length-map-upTo}
 
 -- p, then f 0 to f (k - 1), then what l has from there on, one more written
 written-more : (p : List ℕ) (m : ℕ) → length p ≡ m → (f : ℕ → ℕ) (k : ℕ) (l : List ℕ) → m + k < length l

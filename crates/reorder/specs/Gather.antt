@@ -6,10 +6,11 @@ use mathlib.Core.List.{List, _++_, map}
 use Prim.Native.Nat.{ℕ, _+_, _*_, _^_, min}
 use lib.Dec.{leb, ltb}
 use lib.ListN.{getD, take, drop, replicate}
-use Rattle.diagram.specs.Lists.{upTo}
-use Rattle.diagram.specs.Bound.{mostVariables, mostOutputs}
-use Rattle.diagram.specs.Order.{behind}
-use Rattle.block.specs.Bits.{streamBit, packed}
+use Rattle.lists.specs.Lists.{upTo}
+use Rattle.lists.specs.Bits.{packed}
+use Rattle.diagram.specs.Networks.Bound.{mostVariables, mostOutputs}
+use Rattle.diagram.specs.Orders.Order.{behind}
+use Rattle.block.specs.Bits.{streamBit}
 use Rattle.reorder.specs.Sizes.{width, mostRows, partSize}
 
 -- the drawn row behind each row under the order of the first n entries; zeros past the rows, and where n is too large

@@ -1,3 +1,4 @@
 pub mod Sizes
 pub mod Gather
 pub mod inner
+pub mod Pack

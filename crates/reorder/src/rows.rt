@@ -6,8 +6,8 @@ ghost use mathlib.Core.Path.{_≡_};
 ghost use mathlib.Core.List.{map as each, _++_};
 ghost use Prim.Native.Nat.{ℕ, suc, _+_, _-_, _≤_, _<_};
 ghost use lib.ListN.{length, getD, take, drop};
-ghost use Rattle.diagram.specs.Lists.{upTo};
-ghost use Rattle.diagram.specs.Bound.{mostVariables};
+ghost use Rattle.lists.specs.Lists.{upTo};
+ghost use Rattle.diagram.specs.Networks.Bound.{mostVariables};
 ghost use Rattle.reorder.specs.Gather.{rowMap};
 ghost use Rattle.reorder.specs.inner.Rows.{rowShares};
 

@@ -2,7 +2,7 @@
 use diagram::VARIABLES;
 ghost use mathlib.Core.Path.{_≡_};
 ghost use Prim.Native.Nat.{_^_, _≤_, min};
-ghost use Rattle.diagram.specs.Bound.{mostVariables};
+ghost use Rattle.diagram.specs.Networks.Bound.{mostVariables};
 ghost use Rattle.reorder.specs.Sizes.{widthUpTo};
 
 // How many bytes the rows of d variables take; 0 where they are too many.

@@ -7,16 +7,17 @@ use Prim.Native.Nat.{ℕ, _+_, _*_, _^_, _≤_, _<_}
 use borrow.Author.Tests.{le-leb, lt-leb}
 use lib.Dec.{T, ltb, leb, leb→le}
 use lib.ListN.{length}
-use Rattle.diagram.specs.Lists.{all}
-use Rattle.diagram.proofs.Bools.{to-T}
+use Rattle.lists.specs.Lists.{all}
+use Rattle.lists.specs.Written.{over}
+use Rattle.lists.proofs.Bools.{to-T}
 use Rattle.table.specs.declared.Answer.{Answer}
 use Rattle.table.specs.declared.Answer.the-variants.{Done, ShortBuffer, NoTable, NoRow, TooManyRecords}
 use Rattle.table.specs.declared.Outcome.{Outcome}
 use Rattle.table.specs.declared.State.{State}
 use Rattle.table.specs.Answer.{done}
 use Rattle.table.specs.State.{stageOf, isNothing, reorderedState}
-use Rattle.table.specs.Calls.{planeSize, over}
-use Rattle.table.proofs.Accepted.{unless-done}
+use Rattle.table.specs.Calls.{planeSize}
+use Rattle.table.proofs.Files.Accepted.{unless-done}
 use Rattle.rowlog.specs.Log.{mostRecords, recordsOf, seen, logAnswer, logOutcome, logCounts, logCare}
 use Rattle.rowlog.specs.inner.Care.{careByte}
 use Rattle.rowlog.proofs.Counting.{counted-first}

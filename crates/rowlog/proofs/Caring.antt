@@ -9,10 +9,10 @@ use borrow.Author.Tests.{lt-ltb, le-ltb}
 use lib.Dec.{ltb, leb}
 use lib.ListN.{getD}
 use lib.Pow.{pow-pos}
-use Rattle.block.specs.Bits.{packed}
+use Rattle.lists.specs.Bits.{packed}
+use Rattle.lists.specs.Written.{over}
+use Rattle.lists.proofs.Written.Over.{getD-over}
 use Rattle.table.specs.declared.State.{State}
-use Rattle.table.specs.Calls.{over}
-use Rattle.table.proofs.Over.{getD-over}
 use Rattle.rowlog.specs.Log.{seen, loggedByte}
 use Rattle.rowlog.specs.inner.Care.{careBit, careByte}
 

@@ -10,14 +10,15 @@ use borrow.Author.Tests.{eq-eqb, ne-eqb, lt-leb}
 use lib.Dec.{T, eqb, ltb, leb, eqb→eq, ltb→lt, lt→ltb, leb→le, le→leb, nltb→le}
 use lib.ListN.{length, getD, set, take, drop, length-set}
 use lib.Seq.{take-suc, split-at, ext-getD, getD-set-same, getD-set-other}
-use Rattle.diagram.specs.Lists.{digit, all}
-use Rattle.diagram.proofs.Bools.{split, to-T, to-not, and-T, and-l, and-r, both-ways}
-use Rattle.diagram.proofs.Lists.{all-at}
-use Rattle.diagram.proofs.Numbers.{differ, below-other}
-use Rattle.block.specs.Bits.{sumBelow}
-use Rattle.block.proofs.Sums.{sum-plus, sum-once, sum-zero}
-use Rattle.table.specs.Calls.{over}
-use Rattle.table.proofs.Over.{length-over, getD-over, getD-over-past}
+use Rattle.lists.specs.Lists.{all}
+use Rattle.lists.specs.Bits.{digit}
+use Rattle.lists.specs.Sums.{sumBelow}
+use Rattle.lists.specs.Written.{over}
+use Rattle.lists.proofs.Bools.{split, to-T, to-not, and-T, and-l, and-r, both-ways}
+use Rattle.lists.proofs.Lists.Membership.{all-at}
+use Rattle.lists.proofs.Numbers.Compared.{differ, below-other}
+use Rattle.lists.proofs.Numbers.Sums.{sum-plus, sum-once, sum-zero}
+use Rattle.lists.proofs.Written.Over.{length-over, getD-over, getD-over-past}
 use Rattle.rowlog.specs.Log.{mostRecords, times, seen}
 
 -- the times a row is in a list

@@ -9,13 +9,14 @@ use native.Mathlib.Omega.{arith}
 use lib.Dec.{T, ltb, leb}
 use lib.ListN.{length, getD}
 use lib.Pow.{pow-pos}
-use Rattle.diagram.specs.Lists.{all}
-use Rattle.block.specs.Bits.{packed}
-use Rattle.block.proofs.Sums.{sum-cong, sum-plus}
+use Rattle.lists.specs.Lists.{all}
+use Rattle.lists.specs.Bits.{packed}
+use Rattle.lists.specs.Written.{over}
+use Rattle.lists.proofs.Numbers.Sums.{sum-cong, sum-plus}
+use Rattle.lists.proofs.Written.Over.{getD-over, over-twice, over-cong}
 use Rattle.table.specs.declared.State.{State}
 use Rattle.table.specs.State.{reorderedState}
-use Rattle.table.specs.Calls.{planeSize, over}
-use Rattle.table.proofs.Over.{getD-over, over-twice, over-cong}
+use Rattle.table.specs.Calls.{planeSize}
 use Rattle.rowlog.specs.Log.{times, recordsOf, seen, loggedByte}
 use Rattle.rowlog.proofs.Counting.{times-append, sum-times}
 

@@ -11,9 +11,10 @@ use borrow.Author.Tests.{lt-ltb, le-leb}
 use lib.Dec.{T, ltb, leb}
 use lib.ListN.{length, length-append}
 use lib.Pow.{low}
-use Rattle.diagram.specs.Lists.{all}
-use Rattle.diagram.proofs.Bools.{of-T, and-l}
-use Rattle.diagram.proofs.Lists.{all-append-and}
+use Rattle.lists.specs.Lists.{all}
+use Rattle.lists.proofs.Bools.{of-T, and-l}
+use Rattle.lists.proofs.Lists.Membership.{all-append-and}
+use Rattle.lists.proofs.Written.Over.{length-over}
 use Rattle.block.specs.Bits.{streamBit}
 use Rattle.table.specs.declared.Answer.{Answer}
 use Rattle.table.specs.declared.Answer.the-variants.{Done, NoRow, TooManyRecords}
@@ -24,8 +25,8 @@ use Rattle.table.specs.State.{stageOf, isNothing}
 use Rattle.table.specs.Stream.{tableOf}
 use Rattle.table.specs.Calls.{planeSize}
 use Rattle.table.proofs.Held.{held-heading, few-bits, stage-good}
-use Rattle.table.proofs.Over.{length-over, plane-size}
-use Rattle.table.proofs.PlaneBits.{packed-plane}
+use Rattle.table.proofs.Planes.PlaneBits.{packed-plane}
+use Rattle.table.proofs.Planes.PlaneSize.{plane-size}
 use Rattle.rowlog.specs.Log.{mostRecords, recordsOf, seen, logAnswer, logOutcome, loggedByte, logCounts, logCare, loggedTable}
 use Rattle.rowlog.specs.Sequence.{Logged, accepted, logged}
 use Rattle.rowlog.proofs.Answered.{Passed, passed, log-good}

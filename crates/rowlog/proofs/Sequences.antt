@@ -7,7 +7,7 @@ use mathlib.Core.List.{List, [], _∷_, _++_, append-nil, flatten}
 use mathlib.Core.List.{List·Permᴰ·nil, List·Permᴰ·cons, List·Permᴰ·swap, List·Permᴰ·trans}
 use Prim.Native.Nat.{ℕ}
 use lib.Dec.{T}
-use Rattle.diagram.proofs.Bools.{and-T, and-l, and-r, both-ways}
+use Rattle.lists.proofs.Bools.{and-T, and-l, and-r, both-ways}
 use Rattle.rowlog.specs.Sequence.{Logged, accepted, logged, oneByOne, noneRefused, AnySequence, OneLog}
 use Rattle.rowlog.proofs.Logs.{part-accepted, turned-accepted, turned, then-accepted, together}
 

@@ -6,16 +6,19 @@ use mathlib.Core.List.{List, [], _∷_}
 use Prim.Native.Nat.{ℕ, _+_, _*_, _%_, _^_}
 use lib.Dec.{eqb, ltb, leb}
 use lib.ListN.{length, getD}
-use Rattle.diagram.specs.Lists.{digit, all}
+use Rattle.lists.specs.Lists.{all}
+use Rattle.lists.specs.Bits.{digit, packed}
+use Rattle.lists.specs.Sums.{sumBelow}
+use Rattle.lists.specs.Written.{over}
 use Rattle.diagram.specs.Table.{Table}
-use Rattle.block.specs.Bits.{packed, streamBit, sumBelow}
+use Rattle.block.specs.Bits.{streamBit}
 use Rattle.table.specs.declared.Answer.{Answer}
 use Rattle.table.specs.declared.Answer.the-variants.{Done, ShortBuffer, NoTable, NoRow, TooManyRecords}
 use Rattle.table.specs.declared.Outcome.{Outcome}
 use Rattle.table.specs.declared.State.{State}
 use Rattle.table.specs.Answer.{unless, done}
 use Rattle.table.specs.State.{stageOf, isNothing, reorderedState}
-use Rattle.table.specs.Calls.{planeSize, over}
+use Rattle.table.specs.Calls.{planeSize}
 
 -- 'exceed 4,294,967,295'
 abbrev pub mostRecords : ℕ

@@ -4,8 +4,9 @@ use table::PLANE;
 ghost use mathlib.Core.Path.{_≡_};
 ghost use Prim.Native.Nat.{_≤_, _<_};
 ghost use lib.ListN.{length};
-ghost use Rattle.diagram.specs.Bound.{mostVariables};
-ghost use Rattle.table.specs.Calls.{planeSize, over};
+ghost use Rattle.lists.specs.Written.{over};
+ghost use Rattle.diagram.specs.Networks.Bound.{mostVariables};
+ghost use Rattle.table.specs.Calls.{planeSize};
 ghost use Rattle.rowlog.specs.inner.Care.{careBit, careByte};
 
 // Bit x of the stream of care: each output has 2ⁿ rows, and past the stream's end there is none.

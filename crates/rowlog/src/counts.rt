@@ -4,10 +4,10 @@ ghost use mathlib.Core.Path.{_≡_};
 ghost use Prim.Native.Nat.{ℕ, _+_, _≤_, _<_, _^_};
 ghost use lib.Dec.{T, ltb, leb};
 ghost use lib.ListN.{length, getD};
-ghost use Rattle.diagram.specs.Bound.{mostVariables};
-ghost use Rattle.diagram.specs.Lists.{all};
-ghost use Rattle.block.specs.Bits.{sumBelow};
-ghost use Rattle.table.specs.Calls.{over};
+ghost use Rattle.lists.specs.Lists.{all};
+ghost use Rattle.lists.specs.Sums.{sumBelow};
+ghost use Rattle.lists.specs.Written.{over};
+ghost use Rattle.diagram.specs.Networks.Bound.{mostVariables};
 ghost use Rattle.rowlog.specs.Log.{mostRecords, seen};
 
 // How many records there may be; specs/Log.antt has the definition, `mostRecords`.

@@ -7,14 +7,14 @@ use mathlib.Core.List.{List}
 use Prim.Native.Nat.{ℕ, _*_, _^_}
 use lib.Dec.{ltb}
 use lib.IntN.{ℤ}
+use Rattle.lists.specs.Written.{over}
 use Rattle.diagram.specs.Table.{Table, cost}
-use Rattle.diagram.specs.Sift.{Pass}
-use Rattle.diagram.proofs.FreeRows.{Alike, cost-alike, sift-alike, pass-alike, gains-alike}
+use Rattle.diagram.specs.Orders.Sift.{Pass}
+use Rattle.diagram.proofs.Filling.FreeRows.{Alike, cost-alike, sift-alike, pass-alike, gains-alike}
 use Rattle.table.specs.declared.Answer.{Answer}
 use Rattle.table.specs.declared.Answer.the-variants.{Done, NoSuch, ShortBuffer, NoTable}
 use Rattle.table.specs.declared.State.{State}
 use Rattle.table.specs.Answer.{unless, done}
-use Rattle.table.specs.Calls.{over}
 use Rattle.table.specs.State.{orderOf, stageOf, isNothing}
 use Rattle.fill.specs.Work.{zeroWork}
 use Rattle.fill.specs.Calls.{heldTable, enough}

@@ -7,7 +7,7 @@ use Prim.Native.Nat.{ℕ, _*_, _-_, _<_}
 use lib.Dec.{ltb}
 use lib.ListN.{drop}
 use Rattle.diagram.specs.Table.{cost}
-use Rattle.diagram.specs.Sift.{sift, pass, next, allowed, Pass}
+use Rattle.diagram.specs.Orders.Sift.{sift, pass, next, allowed, Pass}
 use Rattle.diagram.specs.Demands.{SiftedLeast, orderAfter, TurnsLeast}
 use Rattle.table.specs.declared.Answer.{Answer}
 use Rattle.table.specs.declared.Answer.the-variants.{Done, NoSuch, ShortBuffer, NoTable}

@@ -8,14 +8,14 @@ use lib.Dec.{eqb, leb}
 use lib.IntN.{ℤ, pos, negℤ, _-ℤ_}
 use lib.ListN.{length, getD}
 use lib.Signed.{_≤ℤ_}
-use Rattle.diagram.specs.Lists.{index}
-use Rattle.diagram.specs.Moves.{gainAt, Smallest, MovedLeast}
+use Rattle.lists.specs.Lists.{index}
+use Rattle.lists.specs.Written.{over}
+use Rattle.diagram.specs.Orders.Moves.{gainAt, Smallest, MovedLeast}
 use Rattle.table.specs.declared.Answer.{Answer}
 use Rattle.table.specs.declared.Answer.the-variants.{Done, ShortBuffer, NoTable, ShortGains}
 use Rattle.table.specs.declared.State.{State}
 use Rattle.table.specs.Answer.{value, unless, done}
 use Rattle.table.specs.State.{orderOf, stageOf, isNothing}
-use Rattle.table.specs.Calls.{over}
 use Rattle.fill.specs.Work.{zeroWork}
 use Rattle.fill.specs.Calls.{heldTable, enough, countAnswer}
 use Rattle.sift.specs.Calls.{siftAnswer}

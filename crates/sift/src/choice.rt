@@ -5,9 +5,9 @@ ghost use mathlib.Core.Path.{_≡_};
 ghost use Prim.Native.Nat.{_≤_};
 ghost use lib.Dec.{T};
 ghost use lib.ListN.{take};
-ghost use Rattle.diagram.specs.Bound.{mostVariables};
-ghost use Rattle.diagram.specs.Order.{isOrder};
-ghost use Rattle.diagram.specs.Sift.{most};
+ghost use Rattle.lists.specs.Most.{most};
+ghost use Rattle.diagram.specs.Networks.Bound.{mostVariables};
+ghost use Rattle.diagram.specs.Orders.Order.{isOrder};
 ghost use Rattle.sift.specs.inner.Choice.{overtaken, nodesAt, unmarked};
 
 // A variable, and its nodes.

@@ -4,9 +4,9 @@ ghost use mathlib.Core.Path.{_≡_};
 ghost use mathlib.Core.List.{sum};
 ghost use Prim.Native.Nat.{_+_, _*_, _≤_, _<_};
 ghost use lib.ListN.{length};
-ghost use Rattle.diagram.specs.Bound.{mostVariables, mostNodes};
+ghost use Rattle.lists.specs.Written.{splice};
+ghost use Rattle.diagram.specs.Networks.Bound.{mostVariables, mostNodes};
 ghost use Rattle.fill.specs.Calls.{countsSize, countsOf};
-ghost use Rattle.matching.specs.Splice.{splice};
 
 // Puts in the counts of level p.
 pub(crate) fn put_counts(counts: &mut [usize], p: usize, known: [usize; VARIABLES])

@@ -6,8 +6,8 @@ ghost use mathlib.Core.List.{_++_};
 ghost use Prim.Native.Nat.{_+_, _≤_, _<_};
 ghost use lib.Dec.{T};
 ghost use lib.ListN.{take, drop};
-ghost use Rattle.diagram.specs.Bound.{mostVariables};
-ghost use Rattle.diagram.specs.Order.{isOrder, moved};
+ghost use Rattle.diagram.specs.Networks.Bound.{mostVariables};
+ghost use Rattle.diagram.specs.Orders.Order.{isOrder, moved};
 ghost use Rattle.sift.specs.inner.Entries.{otherEntry, movedEntry};
 
 // The j-th of the others, where one stands at level q.

@@ -13,7 +13,7 @@ ghost use mathlib.Core.Path.{_≡_};
 ghost use Prim.Native.Nat.{_≤_, _<_};
 ghost use lib.Dec.{T};
 ghost use lib.ListN.{length};
-ghost use Rattle.diagram.specs.Bound.{mostVariables};
+ghost use Rattle.diagram.specs.Networks.Bound.{mostVariables};
 ghost use Rattle.table.specs.State.{goodHeading, orderOf, reorderedState};
 ghost use Rattle.fill.specs.Work.{trialsZero};
 ghost use Rattle.fill.specs.Calls.{heldTable, enough, countsSize};

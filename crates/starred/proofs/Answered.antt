@@ -7,18 +7,18 @@ use Prim.Native.Nat.{ℕ, _*_, _<_}
 use borrow.Author.Tests.{lt-ltb}
 use lib.Dec.{T, leb}
 use lib.ListN.{getD, drop}
+use Rattle.lists.specs.Written.{over}
+use Rattle.lists.proofs.Bools.{of-T}
 use Rattle.diagram.specs.Table.{cost}
-use Rattle.diagram.proofs.Bools.{of-T}
 use Rattle.table.specs.declared.Answer.the-variants.{Done, TooSmall}
 use Rattle.table.specs.declared.State.{State}
 use Rattle.table.specs.Answer.{done}
 use Rattle.table.specs.State.{orderOf, stageOf, isNothing}
-use Rattle.table.specs.Calls.{over}
 use Rattle.fill.specs.Calls.{heldTable, enough, countAnswer}
 use Rattle.lent.specs.Lent.{numbersOf, rootsSize}
 use Rattle.network.specs.Build.{heldNetwork, wanted, capacity, longEnough, buildAnswer, buildOutcome, buildRoots, buildCells}
 use Rattle.sift.specs.Calls.{siftedOrder, siftAnswer, siftOutcome}
-use Rattle.sift.proofs.SiftOutcome.{sift-is-done}
+use Rattle.sift.proofs.Sifting.SiftOutcome.{sift-is-done}
 
 module _ (s : State) (values care work : List ℕ) (long : T (enough values care work)) (staged : isNothing (stageOf s) ≡ false) where
   is-long : enough values care work ≡ true

@@ -6,8 +6,8 @@ use mathlib.Core.Bool.{true}
 use mathlib.Core.List.{List}
 use Prim.Native.Nat.{ℕ}
 use Rattle.diagram.specs.Table.{Table, filledBit, networkOf, cost}
-use Rattle.diagram.specs.Sift.{sift}
-use Rattle.diagram.proofs.FreeRows.{Alike, cost-alike, network-alike, bit-alike, sift-alike}
+use Rattle.diagram.specs.Orders.Sift.{sift}
+use Rattle.diagram.proofs.Filling.FreeRows.{Alike, cost-alike, network-alike, bit-alike, sift-alike}
 use Rattle.table.specs.declared.State.{State}
 use Rattle.table.specs.State.{orderOf}
 use Rattle.fill.specs.Calls.{heldTable}

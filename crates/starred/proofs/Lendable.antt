@@ -11,15 +11,15 @@ use lib.Arith.{digits-lt, digits-div, digits-mod}
 use lib.Dec.{T, ltb, leb, ltb→lt}
 use lib.ListN.{length, getD, length-append}
 use lib.Seq.{take-at}
-use Rattle.diagram.specs.Lists.{all}
-use Rattle.diagram.specs.Fill.{Row}
-use Rattle.diagram.specs.Bound.{mostVariables}
-use Rattle.diagram.specs.Order.{isOrder}
+use Rattle.lists.specs.Lists.{all}
+use Rattle.lists.proofs.Bools.{of-T, to-not, and-l, and-r}
+use Rattle.lists.proofs.Lists.Membership.{all-at}
+use Rattle.diagram.specs.Filling.Fill.{Row}
+use Rattle.diagram.specs.Networks.Bound.{mostVariables}
+use Rattle.diagram.specs.Orders.Order.{isOrder}
 use Rattle.diagram.specs.Table.{Table}
 use Rattle.diagram.specs.Starred.{Claim, builds, costs, sifts, fits, starred}
-use Rattle.diagram.proofs.Bools.{of-T, to-not, and-l, and-r}
-use Rattle.diagram.proofs.Lists.{all-at}
-use Rattle.diagram.proofs.Order.{order-length}
+use Rattle.diagram.proofs.Orders.Order.{order-length}
 use Rattle.table.specs.declared.Stage.the-variants.{Table as AtTable}
 use Rattle.table.specs.declared.State.{State}
 use Rattle.block.specs.Bits.{streamBit}

@@ -7,11 +7,12 @@ use Prim.Native.Nat.{ℕ, zero, suc, _+_, _*_, _-_, _/_, _%_, _<_, _^_}
 use native.Mathlib.Omega.{arith}
 use lib.Dec.{T, eqb, ltb, lt→ltb}
 use lib.ListN.{length, replicate, length-replicate}
-use Rattle.diagram.specs.Bound.{mostVariables, mostOutputs}
-use Rattle.diagram.specs.Lists.{upTo, rowNumber, bit}
-use Rattle.diagram.proofs.Bools.{and-T}
-use Rattle.diagram.proofs.Bits.{number-lt, bit-number}
-use Rattle.diagram.proofs.UpTo.{getD-map-upTo, length-map-upTo}
+use Rattle.lists.specs.Bits.{rowNumber, bit}
+use Rattle.lists.specs.Lists.{upTo}
+use Rattle.lists.proofs.Bools.{and-T}
+use Rattle.lists.proofs.Bits.Digits.{number-lt, bit-number}
+use Rattle.lists.proofs.Numbers.UpTo.{getD-map-upTo, length-map-upTo}
+use Rattle.diagram.specs.Networks.Bound.{mostVariables, mostOutputs}
 use Rattle.block.specs.Bits.{streamBit}
 use Rattle.table.specs.Calls.{planeSize}
 use Rattle.starred.specs.Lendable.{isBytes}

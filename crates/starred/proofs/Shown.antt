@@ -7,19 +7,20 @@ use Prim.Native.Nat.{ℕ, _*_, _<_, _^_}
 use borrow.Author.Tests.{le-leb}
 use lib.Dec.{T, eqb, leb, eqb→eq}
 use lib.ListN.{length, getD, drop}
-use Rattle.diagram.specs.Lists.{upTo, equal}
-use Rattle.diagram.specs.Diagram.{Node, Diagram, sameNode}
-use Rattle.diagram.specs.Network.{network, count}
+use Rattle.lists.specs.Lists.{upTo, equal}
+use Rattle.lists.specs.Written.{over}
+use Rattle.lists.proofs.Lists.Equal.{numbers-equality, rows-equality}
+use Rattle.lists.proofs.Bools.{and-l, and-r, beq→eq}
+use Rattle.lists.proofs.Lists.Membership.{all-at}
+use Rattle.lists.proofs.Numbers.UpTo.{getD-map-upTo}
+use Rattle.diagram.specs.Networks.Diagram.{Node, Diagram, sameNode}
+use Rattle.diagram.specs.Networks.Network.{network, count}
 use Rattle.diagram.specs.Table.{Table, filledBit, networkOf, cost}
-use Rattle.diagram.specs.Sift.{sift}
+use Rattle.diagram.specs.Orders.Sift.{sift}
 use Rattle.diagram.specs.Starred.{Claim, builds, costs, sifts, fits, holds, filledRows, starred}
-use Rattle.diagram.proofs.Bools.{and-l, and-r, beq→eq}
-use Rattle.diagram.proofs.Lists.{all-at}
-use Rattle.diagram.proofs.Equal.{nodes-equality, numbers-equality, rows-equality}
+use Rattle.diagram.proofs.Networks.Same.{nodes-equality}
 use Rattle.diagram.proofs.Starred.{starred-hold}
-use Rattle.diagram.proofs.UpTo.{getD-map-upTo}
 use Rattle.table.specs.declared.Answer.the-variants.{Done, TooSmall}
-use Rattle.table.specs.Calls.{over}
 use Rattle.lent.specs.Lent.{numbersOf, rootsSize}
 use Rattle.network.specs.Build.{capacity, heldNetwork, wanted}
 use Rattle.starred.specs.Shown.{Shown}

@@ -6,8 +6,8 @@ use mathlib.Core.List.{List}
 use Prim.Native.Nat.{ℕ, _<_}
 use lib.Dec.{T, ltb}
 use lib.ListN.{length}
-use Rattle.diagram.specs.Lists.{all}
-use Rattle.diagram.specs.Bound.{mostVariables}
+use Rattle.lists.specs.Lists.{all}
+use Rattle.diagram.specs.Networks.Bound.{mostVariables}
 use Rattle.diagram.specs.Table.{Table}
 use Rattle.diagram.specs.Starred.{Claim, builds, costs, sifts, fits}
 use Rattle.table.specs.declared.State.{State}

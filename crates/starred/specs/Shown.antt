@@ -7,14 +7,14 @@ use mathlib.Core.List.{List, [], _++_}
 use Prim.Native.Nat.{ℕ, _+_, _*_, _≤_, _<_, _^_}
 use lib.Dec.{T}
 use lib.ListN.{length, getD, drop}
-use Rattle.diagram.specs.Diagram.{Node}
+use Rattle.lists.specs.Written.{over}
+use Rattle.diagram.specs.Networks.Diagram.{Node}
 use Rattle.diagram.specs.Table.{Table, filledBit, cost}
 use Rattle.diagram.specs.Starred.{Claim, builds, costs, sifts, fits}
 use Rattle.table.specs.declared.Answer.the-variants.{Done, TooSmall}
 use Rattle.table.specs.declared.State.{State}
 use Rattle.block.specs.Bits.{streamBit}
 use Rattle.table.specs.State.{orderOf, stageOf, isNothing}
-use Rattle.table.specs.Calls.{over}
 use Rattle.fill.specs.Calls.{heldTable, enough, countAnswer}
 use Rattle.lent.specs.Lent.{numbersOf, rootsSize}
 use Rattle.network.specs.Build.{capacity, longEnough, buildOutcome, buildRoots, buildCells}

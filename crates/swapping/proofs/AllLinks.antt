@@ -10,14 +10,14 @@ use borrow.Author.Tests.{eqb-true}
 use lib.Dec.{eqb}
 use lib.ListN.{length, getD, set, length-append}
 use lib.Seq.{getD-set-same, getD-set-other}
-use Rattle.diagram.specs.Lists.{upTo}
-use Rattle.diagram.specs.Fill.{Link}
-use Rattle.diagram.specs.Diagram.{Node}
-use Rattle.diagram.specs.inner.Exchange.{Pair, entriesFrom, linksFrom, halfPairs, levelPairs, levelLinks, exchangedTrace}
-use Rattle.diagram.proofs.Bools.{split}
-use Rattle.diagram.proofs.Numbers.{differ}
-use Rattle.diagram.proofs.UpTo.{map-upTo-more}
-use Rattle.diagram.proofs.PairBounds.{level-room, linksFrom-length}
+use Rattle.lists.specs.Lists.{upTo}
+use Rattle.lists.proofs.Bools.{split}
+use Rattle.lists.proofs.Numbers.Compared.{differ}
+use Rattle.lists.proofs.Numbers.UpTo.{map-upTo-more}
+use Rattle.diagram.specs.Filling.Fill.{Link}
+use Rattle.diagram.specs.Networks.Diagram.{Node}
+use Rattle.diagram.specs.Exchanging.Exchange.{Pair, entriesFrom, linksFrom, halfPairs, levelPairs, levelLinks, exchangedTrace}
+use Rattle.diagram.proofs.Exchanging.PairBounds.{level-room, linksFrom-length}
 use Rattle.fill.specs.Work.{linksAt, allLinks}
 use Rattle.swapping.specs.inner.Exchange.{pairsIn, putLinks, Entered}
 use Rattle.swapping.proofs.SeenPairs.{pairs-length}

@@ -10,16 +10,17 @@ use native.Mathlib.Omega.{arith}
 use borrow.Author.Tests.{le-leb, lt-ltb}
 use lib.Dec.{leb}
 use lib.ListN.{length, getD, drop}
-use Rattle.diagram.specs.Diagram.{Diagram}
+use Rattle.lists.specs.Written.{over}
+use Rattle.diagram.specs.Networks.Diagram.{Diagram}
 use Rattle.diagram.specs.Table.{Table, FullyCared, networkOf, cost}
-use Rattle.diagram.specs.Canonical.{computedTable}
-use Rattle.diagram.proofs.SameTable.{exchanged-cared}
+use Rattle.diagram.specs.Canonical.Computed.{computedTable}
+use Rattle.diagram.proofs.Networks.SameTable.{exchanged-cared}
 use Rattle.table.specs.declared.Answer.the-variants.{Done, TooSmall}
 use Rattle.table.specs.declared.Outcome.{Outcome}
 use Rattle.table.specs.declared.State.{State}
 use Rattle.table.specs.Answer.{unless, done}
 use Rattle.table.specs.State.{orderOf, stageOf, isNothing, exchanged, reorderedState}
-use Rattle.table.specs.Calls.{planeSize, over}
+use Rattle.table.specs.Calls.{planeSize}
 use Rattle.table.proofs.Held.{stage-good, ordered}
 use Rattle.fill.specs.Work.{workSize}
 use Rattle.fill.specs.Calls.{heldTable}
@@ -29,11 +30,11 @@ use Rattle.network.specs.Build.{buildCells, buildWork}
 use Rattle.swapping.specs.Swap.{heldDiagram, exchangedOrder, swappedNetwork, swappedCount, swapChecks, swapCellsAnswer}
 use Rattle.swapping.specs.Swap.{swapCellsOutcome, swapCellsRoots, swapCellsCells, swapCellsWork}
 use Rattle.swapping.specs.AsBuilt.{Agree, AsBuilt}
-use Rattle.network.proofs.HeldRead.{wanted-nodes}
-use Rattle.network.proofs.LentNetwork.{lent-held}
-use Rattle.network.proofs.Outcomes.{succeeded, done-outcome, done-roots, done-cells}
-use Rattle.network.proofs.BuiltRows.{builtCells, builtRoots, network-stage, good-built, cells-built, roots-built}
-use Rattle.network.proofs.BuiltCanonical.{canonical-built}
+use Rattle.network.proofs.Building.HeldRead.{wanted-nodes}
+use Rattle.network.proofs.Building.LentNetwork.{lent-held}
+use Rattle.network.proofs.Building.Outcomes.{succeeded, done-outcome, done-roots, done-cells}
+use Rattle.network.proofs.Building.BuiltRows.{builtCells, builtRoots, network-stage, good-built, cells-built, roots-built}
+use Rattle.network.proofs.Building.BuiltCanonical.{canonical-built}
 use Rattle.swapping.proofs.Checks.{Passed, passed, swapped-state}
 use Rattle.swapping.proofs.Kept.{count-nodes}
 use Rattle.swapping.proofs.Twice.{heading-left}

@@ -8,16 +8,16 @@ use native.Mathlib.Omega.{arith}
 use borrow.Author.Tests.{le-leb, lt-leb, eq-eqb, ne-eqb}
 use lib.Dec.{leb, leb→le, eqb}
 use lib.ListN.{length, getD, drop}
+use Rattle.lists.specs.Written.{over}
+use Rattle.lists.proofs.Bools.{split, to-T, absurd-T}
 use Rattle.diagram.specs.Table.{Table}
-use Rattle.diagram.specs.Bound.{mostVariables, mostOutputs}
-use Rattle.diagram.proofs.Bools.{split, to-T, absurd-T}
+use Rattle.diagram.specs.Networks.Bound.{mostVariables, mostOutputs}
 use Rattle.table.specs.declared.Answer.{Answer}
 use Rattle.table.specs.declared.Answer.the-variants.{Done, TooSmall}
 use Rattle.table.specs.declared.Outcome.{Outcome}
 use Rattle.table.specs.declared.State.{State}
 use Rattle.table.specs.Answer.{unless, done, number, value}
 use Rattle.table.specs.State.{exchanged, reorderedState}
-use Rattle.table.specs.Calls.{over}
 use Rattle.fill.specs.Work.{workSize, linksAt, allLinks, zeroWork, clearedWork}
 use Rattle.fill.specs.Counts.{linksFit, linkedLevels}
 use Rattle.fill.proofs.Counting.LinkPairs.{Links}
@@ -28,10 +28,10 @@ use Rattle.network.specs.Reading.{readAnswer, readRoots, readCells, readWork}
 use Rattle.swapping.specs.Swap.{cellTable, exchangedOrder, swappedNetwork, swappedCount, swapChecks, swapCellsAnswer}
 use Rattle.swapping.specs.Swap.{swapCellsOutcome, swapCellsRoots, swapCellsCells, clearsSwap, swapCellsWork}
 use Rattle.swapping.specs.inner.Exchange.{lentAt, putLinks, Entered}
-use Rattle.diagram.specs.inner.Exchange.{exchangedTrace}
-use Rattle.network.proofs.LevelsRead.{Sized}
-use Rattle.network.proofs.TraceRead.{kss, lss, read-total, read-cells, read-roots}
-use Rattle.network.proofs.WorkLinks.{zero-same, clear-zero}
+use Rattle.diagram.specs.Exchanging.Exchange.{exchangedTrace}
+use Rattle.network.proofs.LinksRead.LevelsRead.{Sized}
+use Rattle.network.proofs.LinksRead.TraceRead.{kss, lss, read-total, read-cells, read-roots}
+use Rattle.network.proofs.LinksRead.WorkLinks.{zero-same, clear-zero}
 use Rattle.swapping.proofs.Checks.{Passed, refused, checks-clear, checks-long}
 use Rattle.swapping.proofs.HeldLinks.{rootPairs, few, few′, held-sized, held-end, held-counts}
 use Rattle.swapping.proofs.HeldLinks.{held-there, held-long, held-past}

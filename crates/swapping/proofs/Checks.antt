@@ -8,16 +8,16 @@ use native.Mathlib.Omega.{arith}
 use borrow.Author.Tests.{lt-leb, le-leb}
 use lib.Dec.{T, eqb, ltb, leb, leb→le, ltb→lt, lt→ltb}
 use lib.ListN.{length}
-use Rattle.diagram.specs.Bound.{mostOutputs}
-use Rattle.diagram.specs.Canonical.{canonical}
-use Rattle.diagram.proofs.Bools.{split, of-T, to-T, absurd-T, and-l, and-r}
+use Rattle.lists.proofs.Bools.{split, of-T, to-T, absurd-T, and-l, and-r}
+use Rattle.diagram.specs.Networks.Bound.{mostOutputs}
+use Rattle.diagram.specs.Canonical.Computed.{canonical}
 use Rattle.table.specs.declared.Answer.{Answer}
 use Rattle.table.specs.declared.Answer.the-variants.{Done, ShortBuffer, NoSuch, NoNetwork, BadCells, NotCanonical}
 use Rattle.table.specs.declared.State.{State}
 use Rattle.table.specs.Answer.{unless, done, number}
 use Rattle.table.specs.State.{orderOf, stageOf, isNothing, isNetwork, exchanged, reorderedState}
 use Rattle.table.specs.Calls.{swapAnswer, swapOutcome}
-use Rattle.table.proofs.Accepted.{unless-done}
+use Rattle.table.proofs.Files.Accepted.{unless-done}
 use Rattle.fill.specs.Work.{workSize}
 use Rattle.fill.proofs.Buffers.Sizes.{work-size}
 use Rattle.lent.specs.Lent.{rootsSize}

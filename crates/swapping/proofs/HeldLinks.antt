@@ -9,42 +9,41 @@ use native.Mathlib.Omega.{arith}
 use lib.Dec.{T}
 use lib.ListN.{length, getD, take, drop, set, length-set}
 use lib.Seq.{getD-set-same, getD-set-other}
-use Rattle.diagram.specs.Lists.{upTo}
-use Rattle.diagram.specs.Fill.{Link}
-use Rattle.diagram.specs.Diagram.{Diagram, largest, nodeAt}
-use Rattle.diagram.specs.Order.{isOrder}
+use Rattle.lists.specs.Lists.{upTo}
+use Rattle.lists.proofs.Lists.Membership.{getD-map}
+use Rattle.lists.proofs.Numbers.Compared.{differ}
+use Rattle.lists.proofs.Numbers.UpTo.{getD-map-upTo}
+use Rattle.lists.proofs.Written.Outside.{past-same}
+use Rattle.diagram.specs.Filling.Fill.{Link}
+use Rattle.diagram.specs.Networks.Diagram.{Diagram, largest, nodeAt}
+use Rattle.diagram.specs.Orders.Order.{isOrder}
 use Rattle.diagram.specs.Table.{Table}
-use Rattle.diagram.specs.Bound.{mostVariables, mostOutputs}
-use Rattle.diagram.specs.inner.Trace.{differing}
-use Rattle.diagram.specs.inner.Exchange.{Pair, both, levelLinks, exchangedTrace, Exchanged}
-use Rattle.diagram.proofs.Lists.{getD-map}
-use Rattle.diagram.proofs.Numbers.{differ}
-use Rattle.diagram.proofs.Order.{order-length}
-use Rattle.diagram.proofs.UpTo.{getD-map-upTo}
-use Rattle.diagram.proofs.Levels.{trace-lower}
-use Rattle.diagram.proofs.Exchange.{exchanged-trace}
-use Rattle.diagram.proofs.OwnNodes.{trace-as}
-use Rattle.diagram.proofs.PairBounds.{level-room}
+use Rattle.diagram.specs.Networks.Bound.{mostVariables, mostOutputs}
+use Rattle.diagram.specs.Networks.Trace.{differing}
+use Rattle.diagram.specs.Exchanging.Exchange.{Pair, both, levelLinks, exchangedTrace, Exchanged}
+use Rattle.diagram.proofs.Orders.Order.{order-length}
+use Rattle.diagram.proofs.Filling.Levels.{trace-lower}
+use Rattle.diagram.proofs.Exchanging.Exchange.{exchanged-trace}
+use Rattle.diagram.proofs.Exchanging.OwnNodes.{trace-as}
+use Rattle.diagram.proofs.Exchanging.PairBounds.{level-room}
 use Rattle.table.specs.declared.State.{State}
 use Rattle.table.specs.State.{orderOf, exchanged}
 use Rattle.table.proofs.Held.{few-inputs, few-outputs, ordered}
-use Rattle.table.proofs.Exchanged.{exchanged-order, take-exchanged}
+use Rattle.table.proofs.Ordering.Exchanged.{exchanged-order, take-exchanged}
 use Rattle.fill.specs.Work.{workSize, linksAt, allLinks}
 use Rattle.fill.specs.Counts.{differingPairs}
 use Rattle.fill.proofs.Buffers.Sizes.{work-size}
 use Rattle.fill.proofs.Counting.LinkPairs.{Links}
-use Rattle.lent.specs.Lent.{lentDiagram}
-use Rattle.lent.specs.inner.Cells.{lentCells}
+use Rattle.lent.specs.Lent.{lentDiagram, lentCells}
 use Rattle.lent.proofs.Nodes.{lent-length}
 use Rattle.lent.proofs.Tested.{node-behind}
 use Rattle.network.specs.Levels.{levelAt}
 use Rattle.swapping.specs.Swap.{heldDiagram, cellTable, exchangedOrder}
 use Rattle.swapping.specs.inner.Exchange.{mostPairs, lentAt, putLinks, Entered}
-use Rattle.network.proofs.LevelsRead.{Sized, links-counted}
-use Rattle.network.proofs.Offsets.{links-at}
-use Rattle.network.proofs.TraceSized.{trace-sized, lower-length}
-use Rattle.network.proofs.TraceRead.{drawn, kss, lss, trace-room, links-levels, read-end}
-use Rattle.network.proofs.WorkLinks.{past-same}
+use Rattle.network.proofs.LinksRead.LevelsRead.{Sized, links-counted}
+use Rattle.network.proofs.LinksRead.Offsets.{links-at}
+use Rattle.network.proofs.LinksRead.TraceSized.{trace-sized, lower-length}
+use Rattle.network.proofs.LinksRead.TraceRead.{drawn, kss, lss, trace-room, links-levels, read-end}
 use Rattle.swapping.proofs.Checks.{Passed}
 use Rattle.swapping.proofs.PutLinks.{put-long, put-outside, put-there}
 

@@ -10,24 +10,24 @@ use native.Mathlib.Omega.{arith}
 use borrow.Author.Tests.{le-leb, ltb-true, ltb-false}
 use lib.Dec.{T, ltb, leb, leb→le}
 use lib.ListN.{length, getD, drop, length-append}
-use Rattle.diagram.specs.Diagram.{Diagram}
+use Rattle.lists.specs.Written.{over}
+use Rattle.lists.proofs.Bools.{split, to-T, absurd-T}
+use Rattle.diagram.specs.Networks.Diagram.{Diagram}
 use Rattle.diagram.specs.Table.{Table, cost, Computes}
 use Rattle.diagram.specs.Demands.{Least, NoneFits}
-use Rattle.diagram.proofs.Bools.{split, to-T, absurd-T}
 use Rattle.diagram.proofs.Demands.{whole, right, least-cost, fits}
 use Rattle.table.specs.declared.Answer.{Answer}
 use Rattle.table.specs.declared.Answer.the-variants.{Done, TooSmall}
 use Rattle.table.specs.declared.Outcome.{Outcome}
 use Rattle.table.specs.declared.State.{State}
 use Rattle.table.specs.Answer.{unless, done, number}
-use Rattle.table.specs.Calls.{over}
 use Rattle.lent.specs.Lent.{lentDiagram, numbersOf, rootsSize}
 use Rattle.network.specs.Build.{capacity}
 use Rattle.swapping.specs.Swap.{cellTable, exchangedOrder, swappedNetwork, swappedCount, swapChecks, swapCellsAnswer}
 use Rattle.swapping.specs.Swap.{swapCellsOutcome, swapCellsRoots, swapCellsCells, Swapped}
-use Rattle.network.proofs.LevelsRead.{numbers-length}
-use Rattle.network.proofs.LentNetwork.{lent-network, roots-length}
-use Rattle.network.proofs.TraceRead.{cost-nodes}
+use Rattle.network.proofs.LinksRead.LevelsRead.{numbers-length}
+use Rattle.network.proofs.Building.LentNetwork.{lent-network, roots-length}
+use Rattle.network.proofs.LinksRead.TraceRead.{cost-nodes}
 use Rattle.swapping.proofs.Checks.{Passed, passed, refused}
 use Rattle.swapping.proofs.HeldLinks.{few′, exchanges}
 

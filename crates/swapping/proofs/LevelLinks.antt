@@ -6,12 +6,12 @@ use mathlib.Core.List.{List, [], _∷_, _++_}
 use Prim.Native.Nat.{ℕ, suc, _+_, _*_, _≤_, _<_}
 use native.Mathlib.Omega.{arith}
 use lib.ListN.{length, getD, length-append}
-use Rattle.diagram.specs.Lists.{has}
-use Rattle.diagram.specs.Fill.{Link}
-use Rattle.diagram.specs.Diagram.{Node}
-use Rattle.diagram.specs.inner.Exchange.{Pair, sameClass, constantPair, entriesAfter, linkInto, entriesFrom, linksFrom, halfPair, halfPairs}
-use Rattle.diagram.proofs.Bools.{split}
-use Rattle.diagram.proofs.PairBounds.{linksFrom-length, halfPairs-length}
+use Rattle.lists.specs.Lists.{has}
+use Rattle.lists.proofs.Bools.{split}
+use Rattle.diagram.specs.Filling.Fill.{Link}
+use Rattle.diagram.specs.Networks.Diagram.{Node}
+use Rattle.diagram.specs.Exchanging.Exchange.{Pair, sameClass, constantPair, entriesAfter, linkInto, entriesFrom, linksFrom, halfPair, halfPairs}
+use Rattle.diagram.proofs.Exchanging.PairBounds.{linksFrom-length, halfPairs-length}
 use Rattle.matching.specs.Links.{linkNumber}
 use Rattle.network.specs.Levels.{putStored}
 use Rattle.swapping.specs.inner.Exchange.{pairOf, pairsIn, slots, Shows, putLinks}

@@ -8,8 +8,8 @@ use native.Mathlib.Numerals.{add-one}
 use native.Mathlib.Omega.{arith}
 use borrow.Author.Tests.{lt-ltb, le-ltb, eq-eqb, ne-eqb}
 use lib.ListN.{getD}
-use Rattle.diagram.specs.Diagram.{Node, edge, inverts, opposite}
-use Rattle.diagram.specs.inner.Exchange.{Pair, pair, both, cofactor, halfPair}
+use Rattle.diagram.specs.Networks.Diagram.{Node, edge, inverts, opposite}
+use Rattle.diagram.specs.Exchanging.Exchange.{Pair, pair, both, cofactor, halfPair}
 use Rattle.network.specs.Levels.{storedLimit}
 use Rattle.swapping.specs.inner.Exchange.{pairOf, lentAt}
 

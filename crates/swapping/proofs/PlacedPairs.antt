@@ -10,16 +10,17 @@ use borrow.Author.Tests.{lt-ltb, le-ltb, eqb-true, eqb-false, ltb-true}
 use lib.Dec.{T, eqb, ltb}
 use lib.ListN.{length, getD, take, set, length-map, length-set}
 use lib.Seq.{take-suc-set, getD-append-seam, getD-set-same, getD-set-other}
-use Rattle.diagram.specs.Lists.{flip, digit, has, index, distinct}
-use Rattle.diagram.specs.Fill.{entry}
-use Rattle.diagram.specs.Diagram.{inverts}
-use Rattle.diagram.specs.inner.Exchange.{Pair, both, samePair, normalPair, sameClass, constantPair, entriesAfter, linkInto}
-use Rattle.diagram.proofs.Bools.{flip-self, split, to-T, to-not, and-T, absurd-T, of-T}
-use Rattle.diagram.proofs.Bits.{digit-eqb}
-use Rattle.diagram.proofs.Lists.{index-lt}
-use Rattle.diagram.proofs.Numbers.{differ}
-use Rattle.diagram.proofs.Pairs.{pair-equality}
-use Rattle.diagram.proofs.Grown.{distinct-more}
+use Rattle.lists.specs.Lists.{has, index, distinct}
+use Rattle.lists.specs.Bits.{flip, digit}
+use Rattle.lists.proofs.Bools.{flip-self, split, to-T, to-not, and-T, absurd-T, of-T}
+use Rattle.lists.proofs.Bits.Digits.{digit-eqb}
+use Rattle.lists.proofs.Lists.Membership.{index-lt}
+use Rattle.lists.proofs.Numbers.Compared.{differ}
+use Rattle.lists.proofs.Lists.Grown.{distinct-more}
+use Rattle.diagram.specs.Filling.Fill.{entry}
+use Rattle.diagram.specs.Networks.Diagram.{inverts}
+use Rattle.diagram.specs.Exchanging.Exchange.{Pair, both, samePair, normalPair, sameClass, constantPair, entriesAfter, linkInto}
+use Rattle.diagram.proofs.Exchanging.Pairs.{pair-equality}
 use Rattle.matching.specs.Links.{linkNumber}
 use Rattle.swapping.specs.inner.Exchange.{pairOf, pairsIn, slots, slotOf, Seen, Shows}
 use Rattle.swapping.proofs.SeenPairs.{classesOf, index-class, has-class, distinct-class, index-none, pairs-length, pair-at}

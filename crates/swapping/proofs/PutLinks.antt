@@ -5,12 +5,13 @@ use mathlib.Core.List.{List, [], _∷_}
 use Prim.Native.Nat.{ℕ, _+_, _*_, _/_, _%_, _≤_}
 use native.Mathlib.Omega.{arith}
 use lib.ListN.{length, set, length-set}
-use Rattle.diagram.specs.Fill.{Link}
+use Rattle.lists.proofs.Written.Outside.{Outside, outside-none, outside-join}
+use Rattle.diagram.specs.Filling.Fill.{Link}
 use Rattle.matching.specs.Links.{linkNumber}
 use Rattle.fill.proofs.Counting.LinkPairs.{Links}
 use Rattle.network.specs.Levels.{putStored}
 use Rattle.swapping.specs.inner.Exchange.{putLinks}
-use Rattle.network.proofs.Words.{Outside, outside-none, outside-join, outside-put, word-put, same-word}
+use Rattle.network.proofs.LinksRead.Stored.{outside-put, word-put, same-word}
 
 put-length : (work : List ℕ) (i x : ℕ) → length (putStored work i x) ≡ length work
 put-length work i x = length-set (set work i (x % 256)) (i + 1) (x / 256) ∙ length-set work i (x % 256)

@@ -6,9 +6,9 @@ use Prim.Native.Nat.{ℕ, _+_, _*_, _≤_, _<_}
 use native.Mathlib.Omega.{arith}
 use lib.ListN.{length, getD, take, length-map}
 use lib.Seq.{length-take-le}
-use Rattle.diagram.specs.inner.Exchange.{Pair, both, entriesAfter, linkInto, entriesFrom, linksFrom}
-use Rattle.diagram.proofs.Grown.{take-more}
-use Rattle.diagram.proofs.PairBounds.{linksFrom-length}
+use Rattle.lists.proofs.Lists.Grown.{take-more}
+use Rattle.diagram.specs.Exchanging.Exchange.{Pair, both, entriesAfter, linkInto, entriesFrom, linksFrom}
+use Rattle.diagram.proofs.Exchanging.PairBounds.{linksFrom-length}
 use Rattle.matching.specs.Links.{linkNumber}
 use Rattle.fill.specs.Work.{linksAt}
 use Rattle.network.specs.Levels.{putStored}

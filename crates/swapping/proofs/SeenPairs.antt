@@ -9,12 +9,12 @@ use borrow.Author.Tests.{eq-eqb, ne-eqb}
 use lib.Dec.{T, eqb, eqb→eq, eqb-refl}
 use lib.ListN.{length, getD, take, length-map, List·getD-map}
 use lib.Seq.{length-take-le, getD-take}
-use Rattle.diagram.specs.Lists.{has, index, distinct}
-use Rattle.diagram.specs.inner.Exchange.{Pair, both, samePair, oppositePair, normalPair, sameClass}
-use Rattle.diagram.proofs.Bools.{split, of-T, to-T, absurd-T, both-ways}
-use Rattle.diagram.proofs.Lists.{index-lt, getD-index, index-getD}
-use Rattle.diagram.proofs.Pairs.{pair-equality, class-either}
-use Rattle.diagram.proofs.Grown.{take-more, has-append}
+use Rattle.lists.specs.Lists.{has, index, distinct}
+use Rattle.lists.proofs.Bools.{split, of-T, to-T, absurd-T, both-ways}
+use Rattle.lists.proofs.Lists.Membership.{index-lt, getD-index, index-getD}
+use Rattle.lists.proofs.Lists.Grown.{take-more, has-append}
+use Rattle.diagram.specs.Exchanging.Exchange.{Pair, both, samePair, oppositePair, normalPair, sameClass}
+use Rattle.diagram.proofs.Exchanging.Pairs.{pair-equality, class-either}
 use Rattle.swapping.specs.inner.Exchange.{pairOf, pairsIn, slotOf, Seen}
 
 -- a pair has one number

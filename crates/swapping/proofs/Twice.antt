@@ -9,17 +9,19 @@ use native.Mathlib.Omega.{arith}
 use borrow.Author.Tests.{le-leb}
 use lib.Dec.{T, eqb→eq, ltb, leb, lt→ltb}
 use lib.ListN.{length, getD, take, drop, length-take}
-use Rattle.diagram.specs.Diagram.{Diagram, wellFormed}
-use Rattle.diagram.specs.Order.{isOrder}
+use Rattle.lists.specs.Written.{over}
+use Rattle.lists.proofs.Bools.{split, of-T, absurd-T}
+use Rattle.lists.proofs.Numbers.UpTo.{length-map-upTo}
+use Rattle.lists.proofs.Written.Over.{length-over}
+use Rattle.diagram.specs.Networks.Diagram.{Diagram, wellFormed}
+use Rattle.diagram.specs.Orders.Order.{isOrder}
 use Rattle.diagram.specs.Table.{networkOf}
-use Rattle.diagram.specs.Canonical.{computedTable, canonical}
-use Rattle.diagram.proofs.Bools.{split, of-T, absurd-T}
-use Rattle.diagram.proofs.Order.{order-length}
-use Rattle.diagram.proofs.UpTo.{length-map-upTo}
-use Rattle.diagram.proofs.Evaluate.{formed-length}
+use Rattle.diagram.specs.Canonical.Computed.{computedTable, canonical}
+use Rattle.diagram.proofs.Orders.Order.{order-length}
+use Rattle.diagram.proofs.Networks.Evaluate.{formed-length}
 use Rattle.diagram.proofs.Demands.{filled-length, right}
-use Rattle.diagram.proofs.Canonical.{network-canonical}
-use Rattle.diagram.proofs.SameTable.{exchanged-back}
+use Rattle.diagram.proofs.Canonical.NetworkIff.{network-canonical}
+use Rattle.diagram.proofs.Networks.SameTable.{exchanged-back}
 use Rattle.table.specs.declared.Answer.{Answer}
 use Rattle.table.specs.declared.Answer.the-variants.{Done, TooSmall}
 use Rattle.table.specs.declared.State.{State}
@@ -27,17 +29,15 @@ use Rattle.table.specs.declared.Stage.{Stage}
 use Rattle.table.specs.declared.Stage.the-variants.{Nothing, Table as AtTable, Network}
 use Rattle.table.specs.Answer.{unless, done}
 use Rattle.table.specs.State.{goodHeading, orderOf, stageOf, isNetwork, exchanged, reorderedState}
-use Rattle.table.specs.Calls.{over}
 use Rattle.table.proofs.Held.{good-order, stage-bad, stage-good, few-inputs, few-outputs, some-outputs, ordered}
-use Rattle.table.proofs.Over.{length-over}
 use Rattle.fill.specs.Work.{workSize}
 use Rattle.lent.specs.Lent.{lentNode, lentDiagram, numbersOf, rootsSize}
 use Rattle.lent.specs.Evaluate.{goodCells}
 use Rattle.swapping.specs.Swap.{heldDiagram, cellTable, exchangedOrder, swappedNetwork, swappedCount, swapChecks, swapCellsAnswer}
 use Rattle.swapping.specs.Swap.{swapCellsOutcome, swapCellsRoots, swapCellsCells}
 use Rattle.network.specs.Build.{capacity, networkState}
-use Rattle.network.proofs.LentNetwork.{stored-length, lent-network}
-use Rattle.network.proofs.TraceRead.{cost-nodes}
+use Rattle.network.proofs.Building.LentNetwork.{stored-length, lent-network}
+use Rattle.network.proofs.LinksRead.TraceRead.{cost-nodes}
 use Rattle.swapping.proofs.Checks.{Passed, passed}
 use Rattle.swapping.proofs.HeldLinks.{exchanges}
 use Rattle.swapping.proofs.Kept.{reached, has-room, count-nodes, left-network}

@@ -7,18 +7,18 @@ use mathlib.Core.List.{List, _++_}
 use Prim.Native.Nat.{ℕ, suc, _*_}
 use lib.Dec.{eqb, ltb, leb}
 use lib.ListN.{length, getD, take, drop}
-use Rattle.diagram.specs.Diagram.{Diagram, gives}
-use Rattle.diagram.specs.Order.{rowUnder}
+use Rattle.lists.specs.Written.{over}
+use Rattle.diagram.specs.Networks.Diagram.{Diagram, gives}
+use Rattle.diagram.specs.Orders.Order.{rowUnder}
 use Rattle.diagram.specs.Table.{Table, networkOf, cost, Computes, Solves, Fits}
 use Rattle.diagram.specs.Demands.{Least}
-use Rattle.diagram.specs.Canonical.{computedTable, canonical}
+use Rattle.diagram.specs.Canonical.Computed.{computedTable, canonical}
 use Rattle.table.specs.declared.Answer.{Answer}
 use Rattle.table.specs.declared.Answer.the-variants.{Done, ShortBuffer, NoSuch, NoNetwork, BadCells, NotCanonical, TooSmall}
 use Rattle.table.specs.declared.Outcome.{Outcome}
 use Rattle.table.specs.declared.State.{State}
 use Rattle.table.specs.Answer.{unless, done, number}
 use Rattle.table.specs.State.{orderOf, stageOf, isNetwork, exchanged, reorderedState}
-use Rattle.table.specs.Calls.{over}
 use Rattle.fill.specs.Work.{workSize, zeroWork}
 use Rattle.lent.specs.Lent.{lentDiagram, numbersOf, rootsSize}
 use Rattle.lent.specs.Evaluate.{goodCells}

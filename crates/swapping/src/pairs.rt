@@ -4,8 +4,8 @@ use network::links::turned;
 ghost use mathlib.Core.Path.{_≡_};
 ghost use mathlib.Core.Bool.{true};
 ghost use Prim.Native.Nat.{_<_};
-ghost use Rattle.diagram.specs.Bound.{mostVariables};
-ghost use Rattle.diagram.specs.inner.Exchange.{pair, oppositePair, normalPair, cofactor as cofactorOf, halfPair};
+ghost use Rattle.diagram.specs.Networks.Bound.{mostVariables};
+ghost use Rattle.diagram.specs.Exchanging.Exchange.{pair, oppositePair, normalPair, cofactor as cofactorOf, halfPair};
 ghost use Rattle.network.specs.Levels.{storedLimit};
 ghost use Rattle.swapping.specs.inner.Exchange.{pairLimit, pairOf, lentAt};
 

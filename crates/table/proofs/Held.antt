@@ -7,14 +7,14 @@ use Prim.Native.Nat.{ℕ, _*_, _^_, _≤_, _<_}
 use native.Mathlib.Omega.{arith}
 use borrow.Author.Tests.{le-leb, lt-leb}
 use lib.Dec.{T, leb, leb→le}
-use Rattle.diagram.specs.Bound.{mostVariables, mostOutputs}
-use Rattle.diagram.specs.Order.{isOrder}
-use Rattle.diagram.proofs.Bools.{split, to-T, and-l, and-r}
+use Rattle.lists.proofs.Bools.{split, to-T, and-l, and-r}
+use Rattle.diagram.specs.Networks.Bound.{mostVariables, mostOutputs}
+use Rattle.diagram.specs.Orders.Order.{isOrder}
 use Rattle.table.specs.declared.State.{State}
 use Rattle.table.specs.declared.Stage.the-variants.{Nothing}
 use Rattle.table.specs.State.{goodHeading, orderOf, stageOf, isNothing}
-use Rattle.table.specs.inner.Sizes.{mostBits}
-use Rattle.table.proofs.Answers.{stream-small}
+use Rattle.table.specs.Sizes.{mostBits}
+use Rattle.table.proofs.Files.Answers.{stream-small}
 
 -- the first rule that is broken, or the order's
 

@@ -1,12 +1,13 @@
 -- What each call of this crate answers and leaves (document 01, sections 2, 6 and 7).
 -- Assumes nothing.
 use mathlib.Core.Bool.{cond, not, _&&_}
-use mathlib.Core.List.{List, _++_, map}
+use mathlib.Core.List.{List, map}
 use Prim.Native.Nat.{ℕ, suc, _+_}
 use lib.Dec.{ltb, leb}
-use lib.ListN.{length, drop}
-use Rattle.diagram.specs.Lists.{upTo}
-use Rattle.diagram.specs.Bound.{mostVariables}
+use lib.ListN.{length}
+use Rattle.lists.specs.Lists.{upTo}
+use Rattle.lists.specs.Written.{over}
+use Rattle.diagram.specs.Networks.Bound.{mostVariables}
 use Rattle.block.specs.Block.{byte}
 use Rattle.table.specs.declared.State.{State}
 use Rattle.table.specs.declared.Outcome.{Outcome}
@@ -21,10 +22,6 @@ use Rattle.table.specs.File.{fileInputs, fileOutputs, streamBlocks, stre
 -- the bytes of values or care that a call uses
 unfoldable pub planeSize : ℕ
 planeSize = 2048
-
--- f 0 to f (k - 1), then l from its element k on
-abbrev pub over : {A : Type 0} → (ℕ → A) → ℕ → List A → List A
-over f k l = map f (upTo k) ++ drop k l
 
 -- load checks 10 first, then the file
 unfoldable pub loadAnswer : List ℕ → List ℕ → List ℕ → Answer

@@ -5,9 +5,9 @@ use mathlib.Core.List.{List, map}
 use Prim.Native.Nat.{ℕ, _+_, _*_, _-_, _/_, _%_, _^_}
 use lib.Dec.{eqb, ltb, leb}
 use lib.ListN.{length}
-use Rattle.diagram.specs.Lists.{upTo}
-use Rattle.diagram.specs.Bound.{mostVariables, mostOutputs}
-use Rattle.diagram.specs.Order.{isOrder}
+use Rattle.lists.specs.Lists.{upTo}
+use Rattle.diagram.specs.Networks.Bound.{mostVariables, mostOutputs}
+use Rattle.diagram.specs.Orders.Order.{isOrder}
 use Rattle.block.specs.Block.{blockSize, contentAt, contentSize, contentBits, wholeBlocks, byte, goodCheck, goodNumber}
 use Rattle.block.specs.Block.{unusedZero, unusedBitsZero}
 use Rattle.table.specs.declared.Answer.{Answer}

@@ -4,3 +4,4 @@ pub mod State
 pub mod File
 pub mod Calls
 pub mod inner
+pub mod Sizes

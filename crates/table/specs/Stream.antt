@@ -4,10 +4,11 @@ use mathlib.Core.Bool.{Bool, _&&_}
 use mathlib.Core.List.{List}
 use Prim.Native.Nat.{ℕ, _+_, _*_, _/_, _%_, _^_}
 use lib.Dec.{ltb}
-use Rattle.diagram.specs.Lists.{digit}
-use Rattle.diagram.specs.Fill.{Row}
+use Rattle.lists.specs.Bits.{digit, packed}
+use Rattle.lists.specs.Sums.{sumBelow}
+use Rattle.diagram.specs.Filling.Fill.{Row}
 use Rattle.diagram.specs.Table.{Table}
-use Rattle.block.specs.Bits.{streamBit, sumBelow, packed}
+use Rattle.block.specs.Bits.{streamBit}
 
 -- section 8's `cared`: 'the number of cared bits in the stream' of m × 2ⁿ bits
 unfoldable pub caredBits : ℕ → ℕ → List ℕ → ℕ

@@ -6,10 +6,11 @@ use crate::valid::holds_table;
 use block::bits::word_at;
 ghost use mathlib.Core.Path.{_≡_};
 ghost use Prim.Native.Nat.{_+_, _*_, _-_, _≤_, _<_, min};
-ghost use Rattle.diagram.specs.Lists.{digit};
-ghost use Rattle.block.specs.Bits.{streamBit, sumBelow};
+ghost use Rattle.lists.specs.Bits.{digit};
+ghost use Rattle.lists.specs.Sums.{sumBelow};
+ghost use Rattle.block.specs.Bits.{streamBit};
 ghost use Rattle.table.specs.Calls.{caredAnswer};
-ghost use Rattle.table.specs.inner.Sizes.{mostBits};
+ghost use Rattle.table.specs.Sizes.{mostBits};
 
 // The cared bits among the 64 from bit 64 × w on, of a stream of so many bits.
 fn cared_in(care: &[u8], w: usize, bits: usize) -> usize

@@ -14,13 +14,13 @@ ghost use mathlib.Core.Path.{_≡_};
 ghost use mathlib.Core.Bool.{_&&_};
 ghost use Prim.Native.Nat.{_+_, _*_, _-_, _/_, _≤_, _<_};
 ghost use lib.Dec.{eqb};
-ghost use Rattle.diagram.specs.Bound.{mostVariables, mostOutputs};
+ghost use Rattle.diagram.specs.Networks.Bound.{mostVariables, mostOutputs};
 ghost use Rattle.block.specs.Block.{contentBits, goodNumber};
 ghost use Rattle.table.specs.declared.Answer.the-variants.{BadKind};
 ghost use Rattle.table.specs.Answer.{unless};
 ghost use Rattle.table.specs.File.{fieldsAnswer, blocksAnswer, streamsAnswer, fileAnswer};
 ghost use Rattle.table.specs.inner.Reader.{carriedAnswer, kindAnswer, readAnswer};
-ghost use Rattle.table.specs.inner.Sizes.{mostBits, mostBlocks};
+ghost use Rattle.table.specs.Sizes.{mostBits, mostBlocks};
 
 // The blocks that a stream of so many bits takes.
 pub(crate) fn blocks_for(bits: usize) -> usize

@@ -17,10 +17,11 @@ use diagram::VARIABLES;
 ghost use mathlib.Core.Path.{_≡_};
 ghost use Prim.Native.Nat.{_*_, _≤_, _<_};
 ghost use lib.ListN.{length};
+ghost use Rattle.lists.specs.Written.{over};
 ghost use Rattle.table.specs.State.{unloadedState};
 ghost use Rattle.table.specs.File.{streamByte};
-ghost use Rattle.table.specs.Calls.{planeSize, over, loadOutcome, loadValues, loadCare};
-ghost use Rattle.table.specs.inner.Sizes.{mostBlocks};
+ghost use Rattle.table.specs.Calls.{planeSize, loadOutcome, loadValues, loadCare};
+ghost use Rattle.table.specs.Sizes.{mostBlocks};
 
 // Byte i of the stream that block `first` begins, or 0 past its blocks.
 fn stream_byte(file: &[u8], first: usize, blocks: usize, i: usize) -> u8

@@ -7,9 +7,9 @@ ghost use mathlib.Core.List.{map};
 ghost use Prim.Native.Nat.{suc, _+_, _≤_, _<_};
 ghost use lib.Dec.{eqb, ltb};
 ghost use lib.ListN.{getD, take, drop};
-ghost use Rattle.diagram.specs.Lists.{has, index, upTo};
-ghost use Rattle.diagram.specs.Bound.{mostVariables};
-ghost use Rattle.diagram.specs.Order.{isOrder};
+ghost use Rattle.lists.specs.Lists.{has, index, upTo};
+ghost use Rattle.diagram.specs.Networks.Bound.{mostVariables};
+ghost use Rattle.diagram.specs.Orders.Order.{isOrder};
 ghost use Rattle.block.specs.Block.{byte};
 
 // Whether the variable at level i stands again at a later level below n.

@@ -7,7 +7,7 @@ use crate::valid::holds_table;
 use diagram::VARIABLES;
 ghost use mathlib.Core.Path.{_≡_};
 ghost use Prim.Native.Nat.{suc, _<_};
-ghost use Rattle.diagram.specs.Bound.{mostVariables};
+ghost use Rattle.diagram.specs.Networks.Bound.{mostVariables};
 ghost use Rattle.table.specs.State.{exchanged};
 ghost use Rattle.table.specs.Calls.{swapOutcome};
 

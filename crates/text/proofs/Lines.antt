@@ -5,32 +5,10 @@ use mathlib.Core.List.{List}
 use mathlib.Core.Bool.{Bool, true, false}
 use Prim.Native.Nat.{ℕ, _+_, _*_, _/_, _≤_, min}
 use lib.ListN.{length, getD}
-use Rattle.diagram.specs.Bound.{mostVariables}
+use Rattle.diagram.specs.Networks.Bound.{mostVariables}
 use Rattle.table.specs.declared.State.{State}
 use Rattle.table.specs.State.{stageOf, isNetwork}
-use Rattle.text.specs.Text.{
-  inputs-word,
-  outputs-word,
-  order-word,
-  cared-word,
-  cells-word,
-  cell-word,
-  root-word,
-  newline,
-  spaced,
-  inTurn,
-  line,
-  orderLine,
-  nodeText,
-  cellLine,
-  rootLine,
-  networkLines,
-  heldLines,
-  stateOrder,
-  totalLines,
-  headingLines,
-  networkText,
-}
+use Rattle.text.specs.Text.{inputs-word, outputs-word, order-word, cared-word, cells-word, cell-word, root-word, newline, spaced, inTurn, line, orderLine, nodeText, cellLine, rootLine, networkLines, heldLines, stateOrder, totalLines, headingLines, networkText}
 use Rattle.text.specs.Written.{Written}
 use Rattle.text.proofs.Writing.{written-then, written-as, written-nothing}
 

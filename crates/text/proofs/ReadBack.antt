@@ -5,7 +5,7 @@ use mathlib.Core.List.{List, [], _∷_, _++_}
 use Prim.Native.Nat.{ℕ, zero, suc, _+_, _*_, _-_, _/_, _%_, _^_, _<_}
 use native.Mathlib.Omega.{arith}
 use lib.Dec.{ltb, ltb→lt}
-use Rattle.diagram.proofs.Bools.{split}
+use Rattle.lists.proofs.Bools.{split}
 use Rattle.text.specs.Text.{digits, decimal}
 
 -- the digits read on, where the ones before stand for `value`

@@ -9,7 +9,7 @@ use native.Mathlib.Omega.{arith}
 use lib.Dec.{ltb, ltb→lt, nltb→le}
 use lib.ListN.{length, set, length-append, take, getD}
 use lib.Seq.{sets, set-out, length-sets, take-suc, take-all}
-use Rattle.diagram.proofs.Bools.{split}
+use Rattle.lists.proofs.Bools.{split}
 use Rattle.text.specs.Text.{inTurn}
 use Rattle.text.specs.Written.{Written}
 

@@ -9,7 +9,7 @@ use table::State;
 ghost use Prim.Native.Nat.{_≤_, min};
 ghost use mathlib.Core.Path.{_≡_};
 ghost use lib.ListN.{length, getD};
-ghost use Rattle.diagram.specs.Bound.{mostVariables};
+ghost use Rattle.diagram.specs.Networks.Bound.{mostVariables};
 ghost use Rattle.text.specs.Text.{spaced, inTurn, line, stateOrder};
 ghost use Rattle.text.specs.Written.{Written};
 

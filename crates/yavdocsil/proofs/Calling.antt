@@ -9,7 +9,7 @@ use native.Mathlib.Omega.{arith}
 use borrow.Author.Tests.{le-leb, lt-leb, eq-eqb}
 use lib.Dec.{leb→le}
 use lib.ListN.{length}
-use Rattle.diagram.proofs.Bools.{to-T}
+use Rattle.lists.proofs.Bools.{to-T}
 use Rattle.table.specs.declared.Answer.{Answer}
 use Rattle.table.specs.declared.Answer.the-variants.{ShortBuffer}
 use Rattle.table.specs.declared.Outcome.{Outcome}

@@ -8,16 +8,16 @@ use Prim.Native.Nat.{ℕ, _*_, _<_}
 use native.Mathlib.Omega.{arith}
 use lib.Dec.{T, leb, leb→le, nleb→lt}
 use lib.ListN.{length}
-use Rattle.diagram.specs.Diagram.{Diagram}
-use Rattle.diagram.specs.Order.{isOrder}
+use Rattle.lists.proofs.Bools.{split, of-T, to-T, to-not, and-l, and-r}
+use Rattle.diagram.specs.Networks.Diagram.{Diagram}
+use Rattle.diagram.specs.Orders.Order.{isOrder}
 use Rattle.diagram.specs.Table.{Table, networkOf, cost, Solves}
-use Rattle.diagram.specs.Sift.{Pass, sift, pass, allowed}
+use Rattle.diagram.specs.Orders.Sift.{Pass, sift, pass, allowed}
 use Rattle.diagram.specs.Demands.{Least, NoneFits, SiftedLeast}
-use Rattle.diagram.proofs.Bools.{split, of-T, to-T, to-not, and-l, and-r}
 use Rattle.diagram.proofs.Demands.{right, as-drawn, least-cost, fits}
-use Rattle.diagram.proofs.FreeRows.{Alike, cost-alike, network-alike, sift-alike, pass-alike}
-use Rattle.diagram.proofs.Sift.{sifted}
-use Rattle.diagram.proofs.Pass.{turns-least}
+use Rattle.diagram.proofs.Filling.FreeRows.{Alike, cost-alike, network-alike, sift-alike, pass-alike}
+use Rattle.diagram.proofs.Orders.Sift.{sifted}
+use Rattle.diagram.proofs.Orders.Pass.{turns-least}
 use Rattle.table.specs.declared.Answer.the-variants.{Done, TooSmall}
 use Rattle.table.specs.declared.Outcome.{Outcome}
 use Rattle.table.specs.declared.State.{State}
@@ -27,12 +27,12 @@ use Rattle.table.proofs.Held.{ordered}
 use Rattle.fill.specs.Calls.{heldTable}
 use Rattle.lent.specs.Lent.{lentDiagram}
 use Rattle.network.specs.Build.{heldNetwork, wanted, capacity, longEnough, reachesBoard, buildAnswer, buildOutcome, buildRoots, buildCells}
-use Rattle.network.proofs.TraceRead.{cost-nodes}
-use Rattle.network.proofs.LentNetwork.{lent-held}
-use Rattle.network.proofs.Outcomes.{Succeeded, succeeded, done-outcome, done-roots, done-cells}
+use Rattle.network.proofs.LinksRead.TraceRead.{cost-nodes}
+use Rattle.network.proofs.Building.LentNetwork.{lent-held}
+use Rattle.network.proofs.Building.Outcomes.{Succeeded, succeeded, done-outcome, done-roots, done-cells}
 use Rattle.sift.specs.Calls.{siftOutcome, passOutcome}
-use Rattle.sift.proofs.SiftOutcome.{sift-is-done}
-use Rattle.sift.proofs.PassOutcome.{pass-demand}
+use Rattle.sift.proofs.Sifting.SiftOutcome.{sift-is-done}
+use Rattle.sift.proofs.Passing.PassOutcome.{pass-demand}
 use Rattle.yavdocsil.specs.Demanded.{given, BuildDemands, SiftDemands, PassDemands, Demanded}
 
 module _ (t : Table) (s : State) (values care : List ℕ) (a : Alike t (heldTable s values care)) where

@@ -1,7 +1,7 @@
 -- 'Demands 2 and 3 then mean the table under the new care' (document 02, 2.4): the table in the lent bytes after a log is alike the logged one.
 -- Assumes nothing.
 use mathlib.Core.Path.{refl, sym, ap, subst}
-use Rattle.diagram.specs.Fill.{Row}
+use Rattle.diagram.specs.Filling.Fill.{Row}
 use Rattle.table.specs.declared.State.{State}
 use Rattle.rowlog.specs.Log.{logCare, loggedTable}
 use Rattle.rowlog.proofs.LogThen.{kept}

@@ -9,18 +9,19 @@ use lib.Dec.{eqb, ltb, leb}
 use lib.IntN.{ℤ}
 use lib.ListN.{length, getD}
 use lib.Pow.{pow-mono}
-use Rattle.diagram.specs.Lists.{all}
-use Rattle.diagram.specs.Bound.{mostVariables, mostOutputs, mostNodes}
-use Rattle.diagram.specs.Canonical.{canonical}
-use Rattle.diagram.specs.Diagram.{wellFormed}
-use Rattle.diagram.specs.Order.{isOrder}
+use Rattle.lists.specs.Lists.{all}
+use Rattle.lists.specs.Bits.{packed}
+use Rattle.lists.proofs.Bools.{split, to-T}
+use Rattle.lists.proofs.Bits.Packed.{packed-lt}
+use Rattle.lists.proofs.Numbers.Sums.{sum-digits}
+use Rattle.diagram.specs.Networks.Bound.{mostVariables, mostOutputs, mostNodes}
+use Rattle.diagram.specs.Canonical.Computed.{canonical}
+use Rattle.diagram.specs.Networks.Diagram.{wellFormed}
+use Rattle.diagram.specs.Orders.Order.{isOrder}
 use Rattle.diagram.specs.Table.{cost}
-use Rattle.diagram.proofs.Bools.{split, to-T}
-use Rattle.diagram.proofs.Bound.{few-cost}
-use Rattle.diagram.proofs.Pass.{pass-within}
-use Rattle.block.specs.Bits.{packed, streamBit}
-use Rattle.block.proofs.Packed.{packed-lt}
-use Rattle.block.proofs.Sums.{sum-digits}
+use Rattle.diagram.proofs.Networks.Bound.{few-cost}
+use Rattle.diagram.proofs.Orders.Pass.{pass-within}
+use Rattle.block.specs.Bits.{streamBit}
 use Rattle.block.specs.Block.{blockSize, contentAt, wholeBlocks, byte, goodCheck, goodNumber}
 use Rattle.block.specs.Block.{unusedBetween, unusedZero, unusedBitsZero}
 use Rattle.table.specs.declared.Answer.{Answer}
@@ -43,7 +44,7 @@ use Rattle.lent.specs.Rows.{rowsAnswer}
 use Rattle.lent.proofs.Answered.{network-held}
 use Rattle.network.specs.Build.{wanted, capacity, longEnough, buildAnswer, buildOutcome}
 use Rattle.swapping.specs.Swap.{cellTable, exchangedOrder, swappedCount, swapChecks, swapCellsAnswer, swapCellsOutcome}
-use Rattle.network.proofs.HeldRead.{few-nodes, few-wanted}
+use Rattle.network.proofs.Building.HeldRead.{few-nodes, few-wanted}
 use Rattle.canonical.specs.Canonical.{canonicalAnswer}
 use Rattle.cellfile.specs.File.{countAt, rootsAt, fileCount, fileDiagram, cellBlocks, carriedNumbers}
 use Rattle.cellfile.specs.File.{unusedHeading, networkHeading, cellsBlock, cellsAnswer, networkFileAnswer}

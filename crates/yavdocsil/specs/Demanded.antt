@@ -9,9 +9,9 @@ use mathlib.Core.Logic.{_↔_}
 use Prim.Native.Nat.{ℕ, _*_}
 use lib.Dec.{T}
 use lib.ListN.{length}
-use Rattle.diagram.specs.Diagram.{Diagram}
+use Rattle.diagram.specs.Networks.Diagram.{Diagram}
 use Rattle.diagram.specs.Table.{Table, networkOf, cost, Solves, Fits}
-use Rattle.diagram.specs.Sift.{allowed}
+use Rattle.diagram.specs.Orders.Sift.{allowed}
 use Rattle.diagram.specs.Demands.{AsDrawn, Least, NoneFits, SiftedLeast, orderAfter, TurnsLeast}
 use Rattle.table.specs.declared.Outcome.{Outcome}
 use Rattle.table.specs.declared.State.{State}

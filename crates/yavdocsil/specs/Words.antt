@@ -6,7 +6,7 @@ use Prim.Native.Nat.{ℕ, _+_, _*_, _^_}
 use lib.Dec.{eqb}
 use lib.ListN.{getD, take, drop}
 use lib.Seq.{paste}
-use Rattle.diagram.specs.Bound.{mostVariables}
+use Rattle.diagram.specs.Networks.Bound.{mostVariables}
 use Rattle.table.specs.declared.Answer.{Answer}
 use Rattle.table.specs.declared.State.{State}
 use Rattle.table.specs.declared.Stage.{Stage}

@@ -6,7 +6,7 @@ ghost use mathlib.Core.Path.{_≡_};
 ghost use Prim.Native.Nat.{_+_, _≤_};
 ghost use lib.ListN.{length, take, drop};
 ghost use lib.Seq.{paste};
-ghost use Rattle.diagram.specs.Bound.{mostVariables};
+ghost use Rattle.diagram.specs.Networks.Bound.{mostVariables};
 ghost use Rattle.yavdocsil.specs.Words.{stateWords, orderAt, stageFrom, stageWord, stateFrom, withState};
 
 // How many words a state takes, and where its order begins; specs/Words.antt has the definitions, `stateWords` and `orderAt`.

@@ -5,9 +5,9 @@ use mathlib.Core.Bool.{Bool, true, not, _&&_}
 use mathlib.Core.List.{List, map}
 use Prim.Native.Nat.{ℕ, _+_, _*_, _%_, _<_}
 use lib.ListN.{length, getD}
-use Rattle.diagram.specs.Lists.{all, has, distinct, upTo}
-use Rattle.diagram.specs.Diagram.{Node, sameNode}
-use Rattle.diagram.specs.inner.Structure.{nodeReduced}
+use Rattle.lists.specs.Lists.{all, has, distinct, upTo}
+use Rattle.diagram.specs.Networks.Diagram.{Node, sameNode}
+use Rattle.diagram.specs.Canonical.Structure.{nodeReduced}
 use Rattle.lent.specs.Lent.{lentNode}
 
 -- the first k nodes

@@ -6,9 +6,9 @@ use mathlib.Core.List.{List, [], _∷_, _++_}
 use Prim.Native.Nat.{ℕ, _+_, _≤_, _<_}
 use lib.Dec.{T, eqb, ltb}
 use lib.ListN.{length, getD, take}
-use Rattle.diagram.specs.Lists.{all, keep, has, distinct, equal}
-use Rattle.diagram.specs.Bound.{mostNodes}
-use Rattle.diagram.specs.inner.Structure.{targets, range}
+use Rattle.lists.specs.Lists.{all, keep, has, distinct, equal}
+use Rattle.diagram.specs.Networks.Bound.{mostNodes}
+use Rattle.diagram.specs.Canonical.Structure.{targets, range}
 use Rattle.lent.specs.Lent.{lentNode}
 use Rattle.canonical.specs.declared.walk.Numbered.{Numbered}
 use Rattle.canonical.specs.declared.walk.Numbered.the-variants.{Next, Broken}

@@ -8,16 +8,16 @@ use native.Mathlib.Omega.{arith}
 use borrow.Author.Tests.{eq-eqb, le-leb}
 use lib.Dec.{T, eqb, eqb→eq}
 use lib.ListN.{length}
-use Rattle.diagram.specs.Bound.{mostVariables, mostOutputs}
-use Rattle.diagram.specs.Order.{isOrder}
-use Rattle.diagram.proofs.Bools.{of-T, and-l, and-r}
-use Rattle.diagram.proofs.Numbers.{all-upTo-at, all-upTo-of}
+use Rattle.lists.proofs.Bools.{of-T, and-l, and-r}
+use Rattle.lists.proofs.Numbers.Compared.{all-upTo-at, all-upTo-of}
+use Rattle.diagram.specs.Networks.Bound.{mostVariables, mostOutputs}
+use Rattle.diagram.specs.Orders.Order.{isOrder}
 use Rattle.block.specs.Block.{blockSize, contentAt, wholeBlocks, byte, goodCheck, goodNumber, unusedZero, unusedBetween}
 use Rattle.table.specs.declared.Answer.{Answer}
 use Rattle.table.specs.declared.Answer.the-variants.{Done, BadLength, BadCheck, BadKind, BadContent}
 use Rattle.table.specs.Answer.{done, firstRefusal}
 use Rattle.table.specs.File.{fileInputs, fileOutputs, fileOrder, shapeAnswer}
-use Rattle.table.proofs.Accepted.{AcceptedShape, unless-done, both-done, accepted-from, accepted-shape}
+use Rattle.table.proofs.Files.Accepted.{AcceptedShape, unless-done, both-done, accepted-from, accepted-shape}
 use Rattle.cellfile.specs.File.{countAt, rootsAt, fileCount, cellBlocks, unusedHeading, networkHeading, carriedNumbers, cellsBlock}
 use Rattle.cellfile.specs.File.{cellsAnswer, networkFileAnswer}
 

@@ -3,7 +3,7 @@
 use mathlib.Core.Path.{_≡_, refl}
 use Prim.Native.Nat.{ℕ, _≤_, _<_}
 use native.Mathlib.Omega.{arith}
-use Rattle.diagram.specs.Bound.{mostNodes}
+use Rattle.diagram.specs.Networks.Bound.{mostNodes}
 use Rattle.block.specs.Numbers.{numberLimit}
 use Rattle.cellfile.specs.File.{cellBlocks}
 use Rattle.cellfile.specs.Write.{fileSize}

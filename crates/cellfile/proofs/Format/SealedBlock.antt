@@ -6,12 +6,12 @@ use Prim.Native.Nat.{ℕ, suc, _+_, _*_, _-_, _/_, _%_, _≤_, _<_}
 use native.Mathlib.Omega.{arith}
 use borrow.Author.Tests.{lt-ltb, le-ltb, ltb-true, ltb-false, eqb-true, eqb-false, eq-eqb, ne-eqb}
 use lib.Dec.{T, eqb, ltb, eqb→eq}
-use Rattle.diagram.proofs.Bools.{split, to-T}
-use Rattle.block.specs.Bits.{sumBelow}
+use Rattle.lists.specs.Sums.{sumBelow}
+use Rattle.lists.proofs.Bools.{split, to-T}
+use Rattle.lists.proofs.Numbers.Sums.{sum-cong}
 use Rattle.block.specs.Block.{blockSize, contentAt, checkAt, byte, checkOf, goodCheck, goodNumber}
 use Rattle.block.specs.Numbers.{numberByte}
 use Rattle.block.specs.Sealed.{headed, sealed}
-use Rattle.block.proofs.Sums.{sum-cong}
 use Rattle.cellfile.specs.File.{contentNumber}
 use Rattle.cellfile.proofs.Format.AcceptedNetwork.{number-second, number-two, number-good}
 

@@ -8,7 +8,7 @@ use native.Mathlib.Omega.{arith}
 use borrow.Author.Tests.{eq-eqb, ne-eqb}
 use lib.Dec.{eqb}
 use lib.ListN.{length}
-use Rattle.diagram.proofs.Bools.{split}
+use Rattle.lists.proofs.Bools.{split}
 use Rattle.block.specs.Block.{blockSize, byte, goodCheck, goodNumber}
 use Rattle.table.specs.declared.Answer.{Answer}
 use Rattle.table.specs.declared.Answer.the-variants.{BadLength, BadCheck, BadKind}

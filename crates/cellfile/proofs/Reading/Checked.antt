@@ -8,15 +8,15 @@ use native.Mathlib.Omega.{arith}
 use borrow.Author.Tests.{le-leb}
 use lib.Dec.{T}
 use lib.ListN.{length}
-use Rattle.diagram.specs.Bound.{mostNodes}
-use Rattle.diagram.specs.Diagram.{wellFormed}
-use Rattle.diagram.specs.Canonical.{canonical}
-use Rattle.diagram.proofs.Bools.{of-T, to-T}
-use Rattle.diagram.proofs.UpTo.{length-map-upTo}
+use Rattle.lists.proofs.Bools.{of-T, to-T}
+use Rattle.lists.proofs.Numbers.UpTo.{length-map-upTo}
+use Rattle.diagram.specs.Networks.Bound.{mostNodes}
+use Rattle.diagram.specs.Networks.Diagram.{wellFormed}
+use Rattle.diagram.specs.Canonical.Computed.{canonical}
 use Rattle.table.specs.declared.Answer.the-variants.{Done, BadCells, NotCanonical}
 use Rattle.table.specs.Answer.{unless, done}
 use Rattle.table.specs.File.{fileInputs, fileOutputs, fileOrder}
-use Rattle.table.proofs.Accepted.{AcceptedShape, unless-done}
+use Rattle.table.proofs.Files.Accepted.{AcceptedShape, unless-done}
 use Rattle.lent.specs.Lent.{lentDiagram, rootsSize}
 use Rattle.lent.specs.Evaluate.{goodCells}
 use Rattle.lent.proofs.Answered.{enough-cells}

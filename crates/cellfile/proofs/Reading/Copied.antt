@@ -5,14 +5,13 @@ use mathlib.Core.List.{List}
 use Prim.Native.Nat.{ℕ, _+_, _*_, _/_, _≤_, _<_}
 use native.Mathlib.Omega.{arith}
 use lib.ListN.{length, getD}
-use Rattle.diagram.specs.Diagram.{Node}
-use Rattle.diagram.proofs.UpTo.{length-map-upTo, getD-map-upTo, map-upTo-cong}
+use Rattle.lists.specs.Written.{over}
+use Rattle.lists.proofs.Numbers.UpTo.{length-map-upTo, getD-map-upTo, map-upTo-cong, first-elements}
+use Rattle.lists.proofs.Written.Over.{length-over, getD-over}
+use Rattle.diagram.specs.Networks.Diagram.{Node}
 use Rattle.table.specs.File.{fileOutputs}
-use Rattle.table.specs.Calls.{over}
-use Rattle.table.proofs.Accepted.{AcceptedShape}
-use Rattle.table.proofs.Over.{length-over, getD-over}
+use Rattle.table.proofs.Files.Accepted.{AcceptedShape}
 use Rattle.lent.specs.Lent.{lentNode, lentDiagram, rootsSize}
-use Rattle.block.proofs.Elements.{first-elements}
 use Rattle.lent.proofs.Sizes.{roots-size}
 use Rattle.cellfile.specs.File.{fileCount, fileRoot, cellNumber, fileNode, fileDiagram}
 use Rattle.cellfile.specs.inner.Cells.{fileCells, fileRoots}

@@ -8,12 +8,12 @@ use native.Mathlib.Omega.{arith}
 use borrow.Author.Tests.{le-leb, lt-leb}
 use lib.Dec.{leb, leb→le}
 use lib.ListN.{length}
-use Rattle.diagram.proofs.Bools.{split, of-T, to-T, absurd-T, and-l, and-r}
+use Rattle.lists.proofs.Bools.{split, of-T, to-T, absurd-T, and-l, and-r}
 use Rattle.table.specs.declared.Answer.{Answer}
 use Rattle.table.specs.declared.Answer.the-variants.{ShortBuffer, TooSmall}
 use Rattle.table.specs.Answer.{done}
 use Rattle.table.specs.Calls.{planeSize}
-use Rattle.table.proofs.Accepted.{unless-done, both-done}
+use Rattle.table.proofs.Files.Accepted.{unless-done, both-done}
 use Rattle.fill.specs.Work.{workSize}
 use Rattle.lent.specs.Lent.{rootsSize}
 use Rattle.network.specs.Build.{capacity, longEnough}

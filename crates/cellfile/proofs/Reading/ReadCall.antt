@@ -4,12 +4,12 @@ use mathlib.Core.Path.{_≡_, sym, ap, _∙_, subst}
 use mathlib.Core.Bool.{true, false, cond}
 use mathlib.Core.List.{List}
 use Prim.Native.Nat.{ℕ, _*_}
-use Rattle.diagram.proofs.Bools.{absurd-T}
+use Rattle.lists.specs.Written.{over}
+use Rattle.lists.proofs.Bools.{absurd-T}
 use Rattle.table.specs.declared.Answer.{Answer}
 use Rattle.table.specs.declared.Outcome.{Outcome}
 use Rattle.table.specs.declared.State.{State}
 use Rattle.table.specs.Answer.{done}
-use Rattle.table.specs.Calls.{over}
 use Rattle.fill.specs.Work.{clearedWork}
 use Rattle.lent.specs.Lent.{lentDiagram, rootsSize}
 use Rattle.network.specs.Build.{capacity}

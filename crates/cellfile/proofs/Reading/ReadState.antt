@@ -6,16 +6,16 @@ use mathlib.Core.List.{List, map}
 use Prim.Native.Nat.{ℕ, _+_}
 use native.Mathlib.Omega.{arith}
 use lib.Dec.{ltb}
-use Rattle.diagram.specs.Lists.{upTo}
-use Rattle.diagram.specs.Bound.{mostVariables}
-use Rattle.diagram.specs.Order.{isOrder}
-use Rattle.diagram.proofs.Bools.{of-T}
+use Rattle.lists.specs.Lists.{upTo}
+use Rattle.lists.proofs.Bools.{of-T}
+use Rattle.lists.proofs.Written.Filled.{first-listed}
+use Rattle.diagram.specs.Networks.Bound.{mostVariables}
+use Rattle.diagram.specs.Orders.Order.{isOrder}
 use Rattle.block.specs.Block.{byte}
 use Rattle.table.specs.declared.Stage.the-variants.{Network}
 use Rattle.table.specs.State.{orderOf, stageOf, isNetwork}
 use Rattle.table.specs.File.{fileInputs, fileOutputs, fileOrder}
-use Rattle.table.proofs.Accepted.{AcceptedShape}
-use Rattle.table.proofs.Heading.{first-listed}
+use Rattle.table.proofs.Files.Accepted.{AcceptedShape}
 use Rattle.table.proofs.Held.{good-order, stage-good}
 use Rattle.cellfile.specs.File.{fileCount}
 use Rattle.cellfile.specs.Read.{readState}

@@ -7,21 +7,22 @@ use Prim.Native.Nat.{ℕ, _*_, _^_, _≤_}
 use native.Mathlib.Omega.{arith}
 use lib.Dec.{T}
 use lib.ListN.{length}
-use Rattle.diagram.specs.Diagram.{Diagram}
-use Rattle.diagram.specs.Order.{isOrder}
+use Rattle.lists.specs.Written.{over}
+use Rattle.lists.proofs.Bools.{of-T, to-T}
+use Rattle.diagram.specs.Networks.Diagram.{Diagram}
+use Rattle.diagram.specs.Orders.Order.{isOrder}
 use Rattle.diagram.specs.Table.{Table}
 use Rattle.diagram.specs.Demands.{Least}
-use Rattle.diagram.specs.Canonical.{computedTable, canonical}
-use Rattle.diagram.proofs.Bools.{of-T, to-T}
-use Rattle.diagram.proofs.Canonical.{Drawn, solves-of, least-of}
+use Rattle.diagram.specs.Canonical.Computed.{computedTable, canonical}
+use Rattle.diagram.proofs.Canonical.NetworkIff.{Drawn, solves-of, least-of}
 use Rattle.diagram.proofs.Demands.{as-drawn}
 use Rattle.table.specs.State.{orderOf}
 use Rattle.table.specs.File.{fileInputs, fileOutputs, fileOrder}
 use Rattle.table.specs.Stream.{planeByte}
-use Rattle.table.specs.Calls.{planeSize, over}
-use Rattle.table.proofs.Accepted.{AcceptedShape}
-use Rattle.table.proofs.Answers.{stream-small}
-use Rattle.table.proofs.Over.{plane-size}
+use Rattle.table.specs.Calls.{planeSize}
+use Rattle.table.proofs.Files.Accepted.{AcceptedShape}
+use Rattle.table.proofs.Files.Answers.{stream-small}
+use Rattle.table.proofs.Planes.PlaneSize.{plane-size}
 use Rattle.fill.specs.Calls.{heldTable}
 use Rattle.lent.specs.Tabulate.{lentTable, tabulateValues, tabulateCare}
 use Rattle.lent.proofs.Sizes.{roots-size}

@@ -9,7 +9,7 @@ use Prim.Native.Nat.{ℕ, suc, _+_, _*_, _/_, _%_, _≤_}
 use native.Mathlib.Omega.{arith}
 use lib.Dec.{T}
 use lib.ListN.{take, replicate, length-replicate}
-use Rattle.diagram.proofs.Bools.{of-T, to-T}
+use Rattle.lists.proofs.Bools.{of-T, to-T}
 use Rattle.block.specs.Numbers.{numberLimit}
 use Rattle.table.specs.declared.State.{State}
 use Rattle.table.specs.Answer.{done}

@@ -7,9 +7,9 @@ use Prim.Native.Nat.{ℕ, suc, _+_, _*_, _-_, _/_, _%_, _≤_, _<_}
 use native.Mathlib.Omega.{arith}
 use borrow.Author.Tests.{lt-ltb, ltb-true, ltb-false, eqb-true, eqb-false}
 use lib.Dec.{eqb, ltb}
-use Rattle.diagram.specs.Bound.{mostVariables}
-use Rattle.diagram.proofs.Bools.{split}
-use Rattle.diagram.proofs.UpTo.{getD-map-upTo}
+use Rattle.lists.proofs.Bools.{split}
+use Rattle.lists.proofs.Numbers.UpTo.{getD-map-upTo}
+use Rattle.diagram.specs.Networks.Bound.{mostVariables}
 use Rattle.block.specs.Block.{contentAt, checkAt, byte}
 use Rattle.block.specs.Numbers.{numberByte}
 use Rattle.table.specs.File.{fileInputs, fileOutputs}

@@ -7,14 +7,14 @@ use Prim.Native.Nat.{ℕ, suc, _+_, _*_, _≤_}
 use native.Mathlib.Omega.{arith}
 use lib.Dec.{T}
 use lib.ListN.{length, length-take}
-use Rattle.diagram.specs.Order.{isOrder}
-use Rattle.diagram.proofs.Order.{order-length}
+use Rattle.diagram.specs.Orders.Order.{isOrder}
+use Rattle.diagram.proofs.Orders.Order.{order-length}
 use Rattle.block.specs.Block.{blockSize, contentAt}
 use Rattle.table.specs.declared.Answer.the-variants.{Done}
 use Rattle.table.specs.declared.State.{State}
 use Rattle.table.specs.State.{orderOf, stageOf, isNothing}
 use Rattle.table.specs.File.{fileInputs, fileOutputs, fileOrder}
-use Rattle.table.proofs.Accepted.{AcceptedShape}
+use Rattle.table.proofs.Files.Accepted.{AcceptedShape}
 use Rattle.table.proofs.Held.{few-inputs, some-outputs, few-outputs, ordered}
 use Rattle.cellfile.specs.File.{countAt, rootsAt, cellBlocks, carriedNumbers, networkFileAnswer}
 use Rattle.cellfile.specs.Write.{headingByte, cellsByte, blockContent}

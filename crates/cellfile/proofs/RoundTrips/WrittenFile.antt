@@ -8,9 +8,10 @@ use native.Mathlib.Omega.{arith}
 use borrow.Author.Tests.{ne-eqb}
 use lib.ListN.{length, getD, take, drop}
 use lib.Seq.{take-at, ext-getD, getD-take, length-take-le}
-use Rattle.diagram.specs.Lists.{upTo}
-use Rattle.diagram.specs.Bound.{mostVariables, mostOutputs}
-use Rattle.diagram.proofs.UpTo.{length-map-upTo, getD-map-upTo}
+use Rattle.lists.specs.Lists.{upTo}
+use Rattle.lists.specs.Written.{over}
+use Rattle.lists.proofs.Numbers.UpTo.{length-map-upTo, getD-map-upTo}
+use Rattle.diagram.specs.Networks.Bound.{mostVariables, mostOutputs}
 use Rattle.block.specs.Block.{blockSize, contentAt, checkAt, byte}
 use Rattle.block.specs.Numbers.{numberByte}
 use Rattle.block.specs.Sealed.{headed, sealed}
@@ -18,7 +19,6 @@ use Rattle.table.specs.declared.State.{State}
 use Rattle.table.specs.Answer.{done}
 use Rattle.table.specs.State.{orderOf}
 use Rattle.table.specs.File.{fileInputs, fileOutputs, fileOrder}
-use Rattle.table.specs.Calls.{over}
 use Rattle.cellfile.specs.File.{rootsAt, blockNumbers, fileCount, fileRoot, cellNumber, cellBlocks}
 use Rattle.cellfile.specs.Write.{headingByte, cellsByte, blockContent, fileByte, writeAnswer, writtenFile}
 use Rattle.cellfile.proofs.Format.SealedBlock.{number-joined, headed-content, sealed-before}

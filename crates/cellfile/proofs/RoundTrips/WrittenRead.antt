@@ -8,11 +8,13 @@ use native.Mathlib.Omega.{arith}
 use borrow.Author.Tests.{ltb-true, ltb-false}
 use lib.Dec.{T, ltb}
 use lib.ListN.{getD, take}
-use Rattle.diagram.specs.Bound.{mostOutputs}
-use Rattle.diagram.specs.Diagram.{Diagram, wellFormed}
-use Rattle.diagram.specs.Canonical.{computedTable, canonical}
+use Rattle.lists.specs.Written.{over}
+use Rattle.lists.proofs.Bools.{split, of-T}
+use Rattle.lists.proofs.Written.Over.{over-cong}
+use Rattle.diagram.specs.Networks.Bound.{mostOutputs}
+use Rattle.diagram.specs.Networks.Diagram.{Diagram, wellFormed}
+use Rattle.diagram.specs.Canonical.Computed.{computedTable, canonical}
 use Rattle.diagram.specs.Table.{Table}
-use Rattle.diagram.proofs.Bools.{split, of-T}
 use Rattle.table.specs.declared.Answer.the-variants.{Done}
 use Rattle.table.specs.declared.Outcome.{Outcome}
 use Rattle.table.specs.declared.State.{State}
@@ -21,9 +23,8 @@ use Rattle.table.specs.Answer.{done}
 use Rattle.table.specs.State.{orderOf}
 use Rattle.table.specs.File.{fileInputs, fileOutputs, fileOrder}
 use Rattle.table.specs.Stream.{planeByte}
-use Rattle.table.specs.Calls.{planeSize, over}
+use Rattle.table.specs.Calls.{planeSize}
 use Rattle.table.proofs.Held.{few-outputs}
-use Rattle.table.proofs.Over.{over-cong}
 use Rattle.lent.specs.Lent.{rootsSize, lentDiagram}
 use Rattle.lent.specs.Tabulate.{lentTable}
 use Rattle.network.specs.Build.{capacity, longEnough}

@@ -9,12 +9,12 @@ use borrow.Author.Tests.{ltb-true, ltb-false, eqb-false}
 use lib.Dec.{T, eqb, ltb, ltb→lt, lt→ltb}
 use lib.ListN.{length, getD, List·getD-eq-default}
 use lib.Seq.{getD-take}
-use Rattle.diagram.specs.Lists.{all, upTo}
-use Rattle.diagram.proofs.Bools.{split}
-use Rattle.diagram.proofs.Lists.{all-at, all-mapped}
-use Rattle.diagram.proofs.Numbers.{all-upTo-of}
-use Rattle.diagram.proofs.Order.{order-at}
-use Rattle.block.specs.Bits.{sumBelow}
+use Rattle.lists.specs.Lists.{all, upTo}
+use Rattle.lists.specs.Sums.{sumBelow}
+use Rattle.lists.proofs.Bools.{split}
+use Rattle.lists.proofs.Lists.Membership.{all-at, all-mapped}
+use Rattle.lists.proofs.Numbers.Compared.{all-upTo-of}
+use Rattle.diagram.proofs.Orders.Order.{order-at}
 use Rattle.block.specs.Block.{blockSize, contentAt, checkAt, byte}
 use Rattle.block.specs.Numbers.{numberLimit, numberByte}
 use Rattle.block.specs.Sealed.{headed, sealed}

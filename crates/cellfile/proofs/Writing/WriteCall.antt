@@ -8,14 +8,14 @@ use native.Mathlib.Omega.{arith}
 use borrow.Author.Tests.{le-leb, lt-leb}
 use lib.Dec.{leb, leb→le}
 use lib.ListN.{length}
-use Rattle.diagram.proofs.Bools.{to-T, and-r}
+use Rattle.lists.specs.Written.{over}
+use Rattle.lists.proofs.Bools.{to-T, and-r}
 use Rattle.block.specs.Block.{blockSize}
 use Rattle.table.specs.declared.Answer.{Answer}
 use Rattle.table.specs.declared.Answer.the-variants.{ShortBuffer}
 use Rattle.table.specs.declared.State.{State}
 use Rattle.table.specs.Answer.{done}
-use Rattle.table.specs.Calls.{over}
-use Rattle.table.proofs.Accepted.{unless-done}
+use Rattle.table.proofs.Files.Accepted.{unless-done}
 use Rattle.table.proofs.Held.{few-inputs, few-outputs, ordered}
 use Rattle.fill.specs.Work.{workSize, clearedWork}
 use Rattle.lent.specs.Lent.{rootsSize}

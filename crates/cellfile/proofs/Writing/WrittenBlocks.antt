@@ -7,14 +7,14 @@ use native.Mathlib.Omega.{arith}
 use borrow.Author.Tests.{le-ltb}
 use lib.ListN.{length, drop, set}
 use lib.Seq.{drop-append-add, drop-drop}
-use Rattle.diagram.specs.Lists.{upTo}
-use Rattle.diagram.proofs.UpTo.{length-map-upTo}
+use Rattle.lists.specs.Lists.{upTo}
+use Rattle.lists.specs.Written.{over}
+use Rattle.lists.proofs.Numbers.UpTo.{length-map-upTo}
+use Rattle.lists.proofs.Written.Over.{over-next}
 use Rattle.block.specs.Block.{blockSize, checkAt}
 use Rattle.block.specs.Numbers.{numberByte}
 use Rattle.block.specs.Sealed.{sealed}
 use Rattle.table.specs.declared.State.{State}
-use Rattle.table.specs.Calls.{over}
-use Rattle.table.proofs.Over.{over-next}
 use Rattle.cellfile.specs.Write.{blockContent, fileByte}
 use Rattle.cellfile.specs.inner.Writable.{blockSum}
 use Rattle.cellfile.proofs.Format.SealedBlock.{sealed-before}

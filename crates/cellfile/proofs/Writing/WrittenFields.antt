@@ -6,7 +6,7 @@ use Prim.Native.Nat.{ℕ, _+_, _*_, _-_, _/_, _%_, _≤_, _<_}
 use native.Mathlib.Omega.{arith}
 use borrow.Author.Tests.{lt-ltb, le-ltb, ne-eqb}
 use lib.ListN.{getD}
-use Rattle.diagram.specs.Bound.{mostVariables}
+use Rattle.diagram.specs.Networks.Bound.{mostVariables}
 use Rattle.block.specs.Block.{contentAt}
 use Rattle.block.specs.Numbers.{numberByte}
 use Rattle.table.specs.declared.State.{State}

@@ -5,9 +5,9 @@ use mathlib.Core.Bool.{true}
 use mathlib.Core.List.{List, map}
 use Prim.Native.Nat.{ℕ, _*_, _≤_}
 use lib.ListN.{length}
-use Rattle.diagram.specs.Lists.{upTo}
-use Rattle.diagram.specs.Diagram.{wellFormed}
-use Rattle.diagram.specs.Canonical.{canonical}
+use Rattle.lists.specs.Lists.{upTo}
+use Rattle.diagram.specs.Networks.Diagram.{wellFormed}
+use Rattle.diagram.specs.Canonical.Computed.{canonical}
 use Rattle.table.specs.declared.Answer.{Answer}
 use Rattle.table.specs.declared.Answer.the-variants.{Done, BadCells, NotCanonical}
 use Rattle.table.specs.Answer.{unless, done}

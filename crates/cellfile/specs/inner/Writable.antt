@@ -3,9 +3,9 @@
 use mathlib.Core.List.{List}
 use Prim.Native.Nat.{ℕ, suc, _*_, _≤_}
 use lib.Dec.{T}
-use Rattle.diagram.specs.Bound.{mostVariables, mostOutputs, mostNodes}
-use Rattle.diagram.specs.Order.{isOrder}
-use Rattle.block.specs.Bits.{sumBelow}
+use Rattle.lists.specs.Sums.{sumBelow}
+use Rattle.diagram.specs.Networks.Bound.{mostVariables, mostOutputs, mostNodes}
+use Rattle.diagram.specs.Orders.Order.{isOrder}
 use Rattle.block.specs.Block.{checkAt}
 use Rattle.table.specs.declared.State.{State}
 use Rattle.table.specs.State.{orderOf}

@@ -7,18 +7,18 @@ use Prim.Native.Nat.{ℕ, _+_, _-_, _≤_}
 use native.Mathlib.Nat.{zero-add}
 use lib.ListN.{length, take, drop, replicate, length-append, length-drop, length-replicate}
 use lib.Seq.{take-at, drop-at, drop-drop}
-use Rattle.diagram.specs.Fill.{Link}
+use Rattle.lists.specs.Written.{splice}
+use Rattle.lists.proofs.Written.Splice.{length-splice, splice-none}
+use Rattle.lists.proofs.Written.Windows.{drop-here, drop-behind, splice-over, splice-append, splice-swap}
+use Rattle.lists.proofs.Written.Zeros.{zeros-take, zeros-drop, splice-zeros}
+use Rattle.diagram.specs.Filling.Fill.{Link}
 use Rattle.matching.specs.Parts.{LevelParts, chunks, flat}
 use Rattle.matching.specs.Links.{regionSize, linkBytes}
 use Rattle.fill.specs.Work.{workSize, linksAt, allLinks, zeroWork, traceWork}
-use Rattle.matching.specs.Splice.{splice}
 use Rattle.matching.specs.Level.{written}
 use Rattle.fill.specs.inner.Descent.{holding, linksUpTo}
 use Rattle.fill.proofs.Buffers.Sizes.{sizes}
-use Rattle.matching.proofs.Buffers.Splice.{length-splice, splice-none}
-use Rattle.matching.proofs.Buffers.Windows.{drop-here, drop-behind, splice-over, splice-append, splice-swap}
 use Rattle.matching.proofs.Buffers.WrittenLevel.{Fit, fit-end, parts-under}
-use Rattle.fill.proofs.Buffers.Zeros.{zeros-take, zeros-drop, splice-zeros}
 
 -- one of the two regions
 abbrev pub Region : ℕ → Type 0

@@ -7,8 +7,9 @@ use Prim.Native.Nat.{ℕ, _*_, _≤_, _<_}
 use borrow.Author.Tests.{le-leb, lt-leb}
 use lib.Dec.{T, leb, leb→le}
 use lib.ListN.{length, replicate}
+use Rattle.lists.specs.Written.{splice}
+use Rattle.lists.proofs.Bools.{split, to-T, and-r}
 use Rattle.diagram.specs.Table.{cost}
-use Rattle.diagram.proofs.Bools.{split, to-T, and-r}
 use Rattle.table.specs.declared.Answer.{Answer}
 use Rattle.table.specs.declared.Answer.the-variants.{Done, ShortBuffer, NoTable}
 use Rattle.table.specs.declared.State.{State}
@@ -21,7 +22,6 @@ use Rattle.fill.specs.inner.Filling.{filledWork, filledLevels, refusedLe
 use Rattle.fill.proofs.Buffers.Sizes.{sizes}
 use Rattle.fill.proofs.Room.LinksRoom.{linksLimit}
 use Rattle.fill.proofs.Calls.HeldFilling.{links-gone}
-use Rattle.matching.specs.Splice.{splice}
 
 -- whether the buffers have their sizes
 module _ (values care work : List ℕ) where

@@ -7,27 +7,27 @@ use mathlib.Core.Logic.{inl}
 use Prim.Native.Nat.{ℕ, _+_, _*_, _≤_}
 use lib.Dec.{T}
 use lib.ListN.{length, take, drop, length-append, length-map}
-use Rattle.diagram.specs.Lists.{upTo}
+use Rattle.lists.specs.Lists.{upTo}
+use Rattle.lists.specs.Written.{splice}
+use Rattle.lists.proofs.Numbers.UpTo.{map-upTo-cong}
 use Rattle.diagram.specs.Tree.{Tree}
-use Rattle.diagram.specs.Fill.{Row, Link, level, trace, fill}
-use Rattle.diagram.specs.inner.Trace.{differing, tracedCounts}
-use Rattle.diagram.specs.Network.{counts, count}
-use Rattle.diagram.specs.Bound.{mostVariables, mostOutputs, mostNodes}
+use Rattle.diagram.specs.Filling.Fill.{Row, Link, level, trace, fill}
+use Rattle.diagram.specs.Networks.Trace.{differing, tracedCounts}
+use Rattle.diagram.specs.Networks.Network.{counts, count}
+use Rattle.diagram.specs.Networks.Bound.{mostVariables, mostOutputs, mostNodes}
 use Rattle.diagram.specs.Table.{reordered}
-use Rattle.diagram.proofs.Fill.{links-length, fill-length}
-use Rattle.diagram.proofs.Traced.{traced-counts}
-use Rattle.diagram.proofs.Count.{count-sum, counts-length}
-use Rattle.diagram.proofs.Bound.{most}
-use Rattle.diagram.proofs.UpTo.{map-upTo-cong}
-use Rattle.diagram.proofs.Levels.{linksOf}
+use Rattle.diagram.proofs.Filling.Fill.{links-length, fill-length}
+use Rattle.diagram.proofs.Tracing.Traced.{traced-counts}
+use Rattle.diagram.proofs.Networks.Count.{count-sum, counts-length}
+use Rattle.diagram.proofs.Networks.Bound.{most}
+use Rattle.diagram.proofs.Filling.Levels.{linksOf}
 use Rattle.table.specs.Stream.{tableOf}
-use Rattle.table.proofs.Answers.{stream-small}
+use Rattle.table.proofs.Files.Answers.{stream-small}
 use Rattle.reorder.specs.Sizes.{width}
-use Rattle.reorder.specs.inner.Pack.{encode}
+use Rattle.reorder.specs.Pack.{encode}
 use Rattle.matching.specs.Parts.{LevelParts, levelParts, flat}
 use Rattle.matching.specs.Links.{linkBytes}
 use Rattle.fill.specs.Work.{workSize, linksAt, allLinks, zeroWork, traceWork}
-use Rattle.matching.specs.Splice.{splice}
 use Rattle.matching.specs.Level.{partsAt, written}
 use Rattle.reorder.specs.Gather.{rowMap, gatheredPart}
 use Rattle.fill.specs.Calls.{perLevel, entryCounts}

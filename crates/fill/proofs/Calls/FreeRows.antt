@@ -9,12 +9,12 @@ use lib.Arith.{digits-lt}
 use lib.Dec.{T}
 use lib.ListN.{length, length-map}
 use Rattle.diagram.specs.Tree.{Tree}
-use Rattle.diagram.specs.Fill.{Row, Link, Level, level, trace}
-use Rattle.diagram.specs.Network.{counts}
+use Rattle.diagram.specs.Filling.Fill.{Row, Link, Level, level, trace}
+use Rattle.diagram.specs.Networks.Network.{counts}
 use Rattle.diagram.specs.Table.{filled}
-use Rattle.diagram.proofs.Evened.{nextOf}
-use Rattle.diagram.proofs.MaskedRows.{masked, level-masked, next-masked, trace-masked}
-use Rattle.diagram.proofs.FreeRows.{Alike, outputs-same, rows-alike, filled-alike, cost-alike}
+use Rattle.diagram.proofs.Filling.Evened.{nextOf}
+use Rattle.diagram.proofs.Filling.MaskedRows.{masked, level-masked, next-masked, trace-masked}
+use Rattle.diagram.proofs.Filling.FreeRows.{Alike, outputs-same, rows-alike, filled-alike, cost-alike}
 use Rattle.block.specs.Bits.{streamBit}
 use Rattle.table.specs.declared.State.{State}
 use Rattle.table.specs.declared.Answer.{Answer}

@@ -7,11 +7,12 @@ use mathlib.Core.Logic.{inl}
 use Prim.Native.Nat.{ℕ, _+_, _*_, _≤_}
 use lib.Dec.{T}
 use lib.ListN.{length, take, replicate}
-use Rattle.diagram.specs.Bound.{mostOutputs, mostNodes}
-use Rattle.diagram.specs.Fill.{level, trace}
-use Rattle.diagram.specs.Network.{counts}
+use Rattle.lists.specs.Written.{splice}
+use Rattle.lists.proofs.Numbers.UpTo.{length-map-upTo}
+use Rattle.diagram.specs.Networks.Bound.{mostOutputs, mostNodes}
+use Rattle.diagram.specs.Filling.Fill.{level, trace}
+use Rattle.diagram.specs.Networks.Network.{counts}
 use Rattle.diagram.specs.Table.{reordered, filled, cost}
-use Rattle.diagram.proofs.UpTo.{length-map-upTo}
 use Rattle.table.specs.declared.Answer.the-variants.{Done}
 use Rattle.table.specs.declared.State.{State}
 use Rattle.table.specs.State.{orderOf, stageOf, isNothing}
@@ -25,7 +26,6 @@ use Rattle.fill.specs.Counts.{countsAt, linksEnd}
 use Rattle.fill.specs.inner.Filling.{firstWork, filledWork, filledLevels}
 use Rattle.fill.proofs.Buffers.Sizes.{sizes}
 use Rattle.fill.proofs.Buffers.HeldParts.{held-cleared, held-trace}
-use Rattle.matching.specs.Splice.{splice}
 use Rattle.matching.proofs.Buffers.PartLengths.{length-links}
 use Rattle.fill.proofs.Room.LinksRoom.{linksLimit, links-room}
 use Rattle.fill.proofs.Calls.Filling.{trace-size, descend-asks, entries-filled, left-filled, counts-ask, counts-filled, cells-filled}

@@ -8,6 +8,7 @@ use native.Mathlib.Nat.{zero-add}
 use borrow.Author.Tests.{le-leb, lt-leb}
 use lib.Dec.{leb}
 use lib.ListN.{length, drop, replicate, length-replicate}
+use Rattle.lists.specs.Written.{splice}
 use Rattle.table.specs.declared.Answer.{Answer}
 use Rattle.table.specs.declared.Answer.the-variants.{Done, ShortBuffer, NoTable}
 use Rattle.table.specs.declared.State.{State}
@@ -16,7 +17,6 @@ use Rattle.table.specs.State.{stageOf, isNothing}
 use Rattle.table.specs.Calls.{planeSize}
 use Rattle.fill.specs.Work.{workSize, trialsSize, trialsZero}
 use Rattle.fill.specs.Calls.{enough, countsSize, triedCounts, trialsAnswer, trialsCounts, trialsWork}
-use Rattle.matching.specs.Splice.{splice}
 use Rattle.fill.proofs.Calls.Answers.{few-values, few-care, few-work, is-enough}
 
 -- the bytes that trials use, made zero

@@ -9,23 +9,23 @@ use borrow.Author.Tests.{le-leb, ltb-true, ltb-false, eqb-true, eqb-false}
 use lib.Dec.{T, eqb, ltb}
 use lib.ListN.{length, take, drop, replicate, replicate-append-replicate}
 use lib.Seq.{take-at}
-use Rattle.diagram.specs.Bound.{mostVariables, mostOutputs, mostNodes}
-use Rattle.diagram.specs.Lists.{upTo}
-use Rattle.diagram.specs.Network.{counts}
+use Rattle.lists.specs.Written.{splice}
+use Rattle.lists.specs.Lists.{upTo}
+use Rattle.lists.proofs.Bools.{split, of-T}
+use Rattle.lists.proofs.Numbers.UpTo.{length-map-upTo}
+use Rattle.lists.proofs.Written.Splice.{length-splice}
+use Rattle.lists.proofs.Written.Windows.{drop-here, drop-behind, window-before}
+use Rattle.lists.proofs.Written.Zeros.{zeros-drop}
+use Rattle.diagram.specs.Networks.Bound.{mostVariables, mostOutputs, mostNodes}
+use Rattle.diagram.specs.Networks.Network.{counts}
 use Rattle.diagram.specs.Table.{Table, reordered, filled, cost}
-use Rattle.diagram.proofs.Bools.{split, of-T}
-use Rattle.diagram.proofs.UpTo.{length-map-upTo}
 use Rattle.table.specs.declared.Answer.the-variants.{Done}
 use Rattle.table.specs.declared.State.{State}
 use Rattle.table.specs.State.{goodHeading, stageOf, isNothing}
 use Rattle.table.proofs.Held.{heading-inputs, heading-few}
 use Rattle.fill.specs.Work.{workSize, trialsSize, trialsZero, zeroWork}
 use Rattle.fill.specs.Calls.{enough, perLevel, countsSize, countsOf, trialCounts, triedCounts, trialsAnswer, trialsCounts, trialsWork}
-use Rattle.matching.specs.Splice.{splice}
 use Rattle.fill.proofs.Buffers.Sizes.{sizes}
-use Rattle.matching.proofs.Buffers.Splice.{length-splice}
-use Rattle.matching.proofs.Buffers.Windows.{drop-here, drop-behind, window-before}
-use Rattle.fill.proofs.Buffers.Zeros.{zeros-drop}
 use Rattle.fill.proofs.Calls.Filling.{cells-filled}
 
 pub counts-size : countsSize ≡ 100

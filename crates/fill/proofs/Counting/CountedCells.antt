@@ -4,21 +4,20 @@ use mathlib.Core.Path.{_≡_, refl, sym, ap, ap₂, _∙_}
 use mathlib.Core.Bool.{Bool, true, not}
 use mathlib.Core.List.{List, [], _∷_, _++_, sum, append-assoc, append-nil}
 use Prim.Native.Nat.{ℕ, _+_, _*_, _≤_, _<_}
-use native.Mathlib.Nat.{add-assoc, add-zero}
 use native.Mathlib.Numerals.{add-one}
 use native.Mathlib.Omega.{arith}
 use borrow.Author.Tests.{eq-eqb, ne-eqb, eqb-true, eqb-false}
 use lib.Dec.{eqb}
-use lib.ListN.{length, getD, take, drop, set, length-append, drop-of-length-le}
-use lib.Seq.{drop-cons}
-use Rattle.diagram.specs.Bound.{mostVariables}
-use Rattle.diagram.specs.Lists.{digit}
-use Rattle.diagram.proofs.Bools.{split}
-use Rattle.block.proofs.Sums.{sum-digits}
-use Rattle.table.proofs.Orders.{rest-cons, rest-none}
+use lib.ListN.{length, getD, take, drop, set, length-append}
+use Rattle.lists.specs.Bits.{digit}
+use Rattle.lists.proofs.Bools.{split}
+use Rattle.lists.proofs.Numbers.Sums.{sum-digits}
+use Rattle.lists.proofs.Written.Rest.{rest-cons, rest-none}
+use Rattle.lists.proofs.Numbers.Total.{sum-cons}
+use Rattle.diagram.specs.Networks.Bound.{mostVariables}
 use Rattle.fill.specs.Calls.{perLevel}
 use Rattle.fill.specs.Counts.{linkAt, pairDiffers, differingPairs, countsAt, linksEnd}
-use Rattle.fill.proofs.Counting.PerLevel.{per-level-more, sum-cons}
+use Rattle.fill.proofs.Counting.PerLevel.{per-level-more}
 
 -- one pair, by its bytes
 
@@ -117,17 +116,3 @@ counts-few work at (k ∷ ks) =
     )
 
 -- all added up
-
-module _ (counts : List ℕ) (cells p : ℕ) (so-far : cells + sum _+_ 0 (drop p counts) ≡ sum _+_ 0 counts) where
-  pub sum-more : p < length counts → (cells + getD counts p 0) + sum _+_ 0 (drop (p + 1) counts) ≡ sum _+_ 0 counts
-  sum-more h =
-      add-assoc cells (getD counts p 0) (sum _+_ 0 (drop (p + 1) counts))
-      ∙ ap (λ (y : ℕ). cells + y)
-      (sym (ap (sum _+_ 0) (drop-cons counts p 0 h ∙ ap (λ (j : ℕ). getD counts p 0 ∷ drop j counts) (sym (add-one p)))
-      ∙ sum-cons (getD counts p 0) (drop (p + 1) counts)))
-      ∙ so-far
-
-  pub sum-all : length counts ≤ p → cells ≡ sum _+_ 0 counts
-  unfolding sum
-  sum-all h =
-      sym (add-zero cells) ∙ ap (λ (xs : List ℕ). cells + sum _+_ 0 xs) (sym (drop-of-length-le counts {i = p} h)) ∙ so-far

@@ -11,13 +11,13 @@ use borrow.Author.Tests.{eq-eqb, ne-eqb, eqb-true, eqb-false}
 use lib.Dec.{T, eqb}
 use lib.ListN.{length, getD, drop}
 use lib.Seq.{drop-drop, drop-at, getD-drop}
-use Rattle.diagram.specs.Lists.{digit}
-use Rattle.diagram.specs.Fill.{Link, const, entry}
-use Rattle.diagram.specs.inner.Trace.{sameLink, differing}
-use Rattle.diagram.proofs.Bools.{split, to-T, beq→eq}
-use Rattle.diagram.proofs.Bits.{digit-le}
-use Rattle.block.specs.Bits.{sumBelow}
-use Rattle.block.proofs.Sums.{sum-add, sum-cong}
+use Rattle.lists.specs.Bits.{digit}
+use Rattle.lists.specs.Sums.{sumBelow}
+use Rattle.lists.proofs.Bools.{split, to-T, beq→eq}
+use Rattle.lists.proofs.Bits.Digits.{digit-le}
+use Rattle.lists.proofs.Numbers.Sums.{sum-add, sum-cong}
+use Rattle.diagram.specs.Filling.Fill.{Link, const, entry}
+use Rattle.diagram.specs.Networks.Trace.{sameLink, differing}
 use Rattle.reorder.specs.Sizes.{width}
 use Rattle.matching.specs.Parts.{alwaysPart, agreePart, alongParts, candidatePart, levelParts, offeredParts}
 use Rattle.matching.specs.Links.{regionSize, linkNumber, linkBytes}

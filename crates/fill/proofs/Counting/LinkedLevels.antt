@@ -9,10 +9,10 @@ use native.Mathlib.Omega.{arith}
 use borrow.Author.Tests.{le-leb}
 use lib.Dec.{leb, leb→le}
 use lib.ListN.{length, getD, take, length-take}
-use Rattle.diagram.specs.Bound.{mostVariables, mostOutputs}
-use Rattle.diagram.proofs.Bools.{to-T, and-l, and-r}
-use Rattle.block.specs.Bits.{sumBelow}
-use Rattle.block.proofs.Sums.{sum-add, sum-cong, sum-zero}
+use Rattle.lists.specs.Sums.{sumBelow}
+use Rattle.lists.proofs.Bools.{to-T, and-l, and-r}
+use Rattle.lists.proofs.Numbers.Sums.{sum-add, sum-cong, sum-zero}
+use Rattle.diagram.specs.Networks.Bound.{mostVariables, mostOutputs}
 use Rattle.table.specs.declared.Answer.the-variants.{Done, ShortBuffer}
 use Rattle.fill.specs.Work.{workSize, linksAt}
 use Rattle.fill.specs.Calls.{perLevel}

@@ -4,17 +4,18 @@ use mathlib.Core.Path.{_≡_, refl, sym, ap, _∙_}
 use mathlib.Core.Bool.{cond}
 use mathlib.Core.List.{List, [], _∷_, _++_, map, sum, append-nil, map-append}
 use Prim.Native.Nat.{ℕ, zero, suc, _+_, _≤_, _<_}
-use native.Mathlib.Nat.{add-assoc, add-zero}
+use native.Mathlib.Nat.{add-zero}
 use native.Mathlib.Omega.{arith}
 use borrow.Author.Tests.{ltb-true, ltb-false}
 use lib.Dec.{ltb}
 use lib.ListN.{length, getD, take, set, length-append, List·getD-append, List·getD-eq-default}
 use lib.Seq.{length-take-le, take-suc, take-all, getD-at, getD-take, ext-getD}
-use Rattle.diagram.specs.Bound.{mostVariables}
-use Rattle.diagram.specs.Lists.{upTo}
-use Rattle.diagram.proofs.Bools.{split}
-use Rattle.diagram.proofs.UpTo.{map-upTo-cong, getD-map-upTo}
-use Rattle.table.proofs.Filled.{filled, filled-more}
+use Rattle.lists.specs.Lists.{upTo}
+use Rattle.lists.proofs.Bools.{split}
+use Rattle.lists.proofs.Numbers.UpTo.{map-upTo-cong, getD-map-upTo}
+use Rattle.lists.proofs.Written.Filled.{filled, filled-more}
+use Rattle.lists.proofs.Numbers.Total.{sum-snoc}
+use Rattle.diagram.specs.Networks.Bound.{mostVariables}
 use Rattle.fill.specs.Calls.{perLevel}
 
 -- the first numbers of a longer list
@@ -49,15 +50,6 @@ per-level-take xs n e h =
     (λ i q. let i-n : i < n = omega arith in getD-take n (perLevel xs) i 0 i-n ∙ per-level-at xs i (omega arith))
 
 -- added up
-
-pub sum-cons : (x : ℕ) (xs : List ℕ) → sum _+_ 0 (x ∷ xs) ≡ x + sum _+_ 0 xs
-unfolding sum
-sum-cons x xs = refl
-
-sum-snoc : (xs : List ℕ) (x : ℕ) → sum _+_ 0 (xs ++ (x ∷ [])) ≡ sum _+_ 0 xs + x
-unfolding sum
-sum-snoc [] x = omega arith
-sum-snoc (y ∷ xs) x = ap (λ (n : ℕ). y + n) (sum-snoc xs x) ∙ sym (add-assoc y (sum _+_ 0 xs) x)
 
 sum-getD : (xs : List ℕ) (j : ℕ) → sum _+_ 0 (map (λ k. getD xs k 0) (upTo j)) ≡ sum _+_ 0 (take j xs)
 sum-getD xs zero = refl

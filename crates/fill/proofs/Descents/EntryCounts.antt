@@ -6,8 +6,8 @@ use mathlib.Core.List.{List, [], _∷_}
 use Prim.Native.Nat.{ℕ, zero, suc}
 use lib.ListN.{length}
 use Rattle.diagram.specs.Tree.{Tree}
-use Rattle.diagram.specs.Fill.{Row, level, candidates}
-use Rattle.diagram.proofs.Evened.{nextOf, next-entries}
+use Rattle.diagram.specs.Filling.Fill.{Row, level, candidates}
+use Rattle.diagram.proofs.Filling.Evened.{nextOf, next-entries}
 use Rattle.fill.specs.Calls.{entryCounts}
 
 pub entries-zero : (fs : List (Tree Row zero)) → entryCounts zero fs ≡ []

@@ -7,7 +7,7 @@ use native.Mathlib.Nat.{suc-ne-zero, mul-le-mul-right}
 use native.Mathlib.Omega.{arith}
 use lib.Dec.{T, leb, leb→le, eqb→eq}
 use lib.ListN.{length, length-append}
-use Rattle.diagram.proofs.Bools.{and-l, and-r}
+use Rattle.lists.proofs.Bools.{and-l, and-r}
 use Rattle.reorder.specs.Sizes.{width}
 use Rattle.matching.specs.Parts.{offeredParts}
 use Rattle.matching.specs.Links.{regionSize, linkBytes}

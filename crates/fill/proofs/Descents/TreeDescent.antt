@@ -6,11 +6,11 @@ use mathlib.Core.List.{List, [], _∷_, map}
 use Prim.Native.Nat.{ℕ, zero, suc}
 use lib.ListN.{length, length-map}
 use Rattle.diagram.specs.Tree.{Tree}
-use Rattle.diagram.specs.Fill.{Row, Link, level, trace}
-use Rattle.diagram.proofs.Evened.{nextOf}
-use Rattle.diagram.proofs.Fill.{trace-zero, trace-suc}
+use Rattle.diagram.specs.Filling.Fill.{Row, Link, level, trace}
+use Rattle.diagram.proofs.Filling.Evened.{nextOf}
+use Rattle.diagram.proofs.Filling.Fill.{trace-zero, trace-suc}
 use Rattle.reorder.specs.Sizes.{width}
-use Rattle.reorder.specs.inner.Pack.{encode}
+use Rattle.reorder.specs.Pack.{encode}
 use Rattle.matching.specs.Parts.{LevelParts, levelParts}
 use Rattle.fill.specs.Calls.{entryCounts}
 use Rattle.fill.specs.inner.Descent.{levelBelow, linksBelow, countsBelow}

@@ -8,11 +8,11 @@ use native.Mathlib.Nat.{zero-add}
 use lib.Dec.{T}
 use lib.ListN.{length, set, drop, replicate, length-append, length-drop}
 use lib.Seq.{length-take-le}
-use Rattle.diagram.specs.Bound.{mostVariables}
+use Rattle.lists.specs.Written.{splice}
+use Rattle.diagram.specs.Networks.Bound.{mostVariables}
 use Rattle.reorder.specs.Sizes.{width}
 use Rattle.matching.specs.Links.{regionSize, wordSize, linkBytes}
 use Rattle.fill.specs.Work.{workSize, linksAt, allLinks}
-use Rattle.matching.specs.Splice.{splice}
 use Rattle.matching.specs.Level.{partsAt, written}
 use Rattle.fill.specs.Calls.{perLevel}
 use Rattle.fill.specs.inner.Descent.{levelBelow, linksBelow, countsBelow, roomy, holding, linksUpTo}

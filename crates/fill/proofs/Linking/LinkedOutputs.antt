@@ -6,9 +6,9 @@ use Prim.Native.Nat.{ℕ, _+_, _*_, _-_, _≤_, _<_}
 use native.Mathlib.Nat.{mul-le-mul}
 use native.Mathlib.Numerals.{add-one}
 use lib.ListN.{length}
-use Rattle.diagram.specs.Bound.{mostVariables, mostOutputs}
-use Rattle.diagram.specs.Lists.{upTo}
-use Rattle.diagram.proofs.UpTo.{length-map-upTo}
+use Rattle.lists.specs.Lists.{upTo}
+use Rattle.lists.proofs.Numbers.UpTo.{length-map-upTo}
+use Rattle.diagram.specs.Networks.Bound.{mostVariables, mostOutputs}
 use Rattle.matching.specs.Links.{regionSize}
 use Rattle.fill.specs.Work.{workSize, linksAt}
 use Rattle.reorder.specs.Sizes.{width}

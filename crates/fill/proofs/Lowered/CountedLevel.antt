@@ -7,19 +7,19 @@ use mathlib.Core.Logic.{inl}
 use Prim.Native.Nat.{ℕ, suc, _+_, _*_, _≤_}
 use native.Mathlib.Nat.{mul-le-mul-left}
 use lib.ListN.{length, take, drop}
-use Rattle.diagram.specs.inner.Trace.{differing}
+use Rattle.lists.specs.Written.{splice}
+use Rattle.lists.proofs.Written.Splice.{length-splice}
+use Rattle.lists.proofs.Written.Windows.{drop-here, drop-behind}
+use Rattle.diagram.specs.Networks.Trace.{differing}
 use Rattle.reorder.specs.Sizes.{width}
 use Rattle.matching.specs.Links.{regionSize, linkBytes}
 use Rattle.fill.specs.Work.{workSize, linksAt, trialsSize}
 use Rattle.matching.specs.Parts.{flat}
-use Rattle.matching.specs.Splice.{splice}
 use Rattle.matching.specs.Level.{partsAt, written}
 use Rattle.fill.specs.inner.Descent.{levelBelow}
 use Rattle.fill.specs.Counts.{differingPairs}
 use Rattle.fill.specs.inner.Lowering.{levelLinksAt}
 use Rattle.matching.proofs.Buffers.PartLengths.{Long, length-links}
-use Rattle.matching.proofs.Buffers.Splice.{length-splice}
-use Rattle.matching.proofs.Buffers.Windows.{drop-here, drop-behind}
 use Rattle.matching.proofs.Buffers.WrittenLevel.{Fit, fit-end, parts-under, outside}
 use Rattle.fill.proofs.Counting.LinkPairs.{pairs-links, below-under, two-wide}
 use Rattle.fill.proofs.Descents.LevelsBelow.{Room, links-two, level-fits}

@@ -5,21 +5,21 @@ use mathlib.Core.Bool.{true}
 use mathlib.Core.List.{List, [], map}
 use Prim.Native.Nat.{ℕ, _+_, _≤_}
 use lib.ListN.{length, drop}
-use Rattle.diagram.specs.Bound.{mostVariables, mostOutputs}
+use Rattle.lists.specs.Written.{splice}
+use Rattle.lists.proofs.Written.Splice.{length-splice}
+use Rattle.lists.proofs.Written.Windows.{drop-behind}
+use Rattle.diagram.specs.Networks.Bound.{mostVariables, mostOutputs}
 use Rattle.diagram.specs.Tree.{Tree}
-use Rattle.diagram.specs.Fill.{Row, level}
-use Rattle.diagram.proofs.Fill.{links-length}
-use Rattle.table.proofs.Answers.{stream-small}
+use Rattle.diagram.specs.Filling.Fill.{Row, level}
+use Rattle.diagram.proofs.Filling.Fill.{links-length}
+use Rattle.table.proofs.Files.Answers.{stream-small}
 use Rattle.reorder.specs.Sizes.{width}
-use Rattle.reorder.specs.inner.Pack.{encode}
+use Rattle.reorder.specs.Pack.{encode}
 use Rattle.matching.specs.Links.{regionSize, linkBytes}
 use Rattle.fill.specs.Work.{workSize, linksAt, trialsSize}
 use Rattle.matching.specs.Parts.{LevelParts, levelParts, flat}
-use Rattle.matching.specs.Splice.{splice}
 use Rattle.matching.specs.Level.{partsAt, written}
 use Rattle.matching.proofs.Buffers.PartLengths.{length-links}
-use Rattle.matching.proofs.Buffers.Splice.{length-splice}
-use Rattle.matching.proofs.Buffers.Windows.{drop-behind}
 use Rattle.matching.proofs.Buffers.WrittenLevel.{Fit, fit-end, parts-under}
 use Rattle.fill.proofs.Calls.Filling.{long-encode}
 use Rattle.fill.proofs.Descents.LevelsBelow.{room-first}

@@ -8,9 +8,9 @@ use Prim.Native.Nat.{ℕ, suc, _+_, _*_, _-_, _≤_}
 use lib.Dec.{T}
 use lib.ListN.{length, set, take, drop, length-append, length-drop}
 use lib.Seq.{length-take-le}
-use Rattle.diagram.specs.Bound.{mostVariables}
-use Rattle.diagram.specs.Fill.{Link}
-use Rattle.diagram.specs.inner.Trace.{differing}
+use Rattle.diagram.specs.Networks.Bound.{mostVariables}
+use Rattle.diagram.specs.Filling.Fill.{Link}
+use Rattle.diagram.specs.Networks.Trace.{differing}
 use Rattle.reorder.specs.Sizes.{width}
 use Rattle.matching.specs.Links.{regionSize}
 use Rattle.fill.specs.Work.{workSize, linksAt, trialsSize}

@@ -8,12 +8,13 @@ use native.Mathlib.Numerals.{add-one}
 use lib.Dec.{T}
 use lib.ListN.{length, take, drop, length-append, length-drop, length-map}
 use lib.Seq.{length-take-le}
-use Rattle.diagram.specs.inner.Trace.{differing}
+use Rattle.lists.specs.Written.{splice}
+use Rattle.lists.proofs.Written.Windows.{drop-here, drop-behind}
+use Rattle.diagram.specs.Networks.Trace.{differing}
 use Rattle.reorder.specs.Sizes.{width}
 use Rattle.matching.specs.Links.{regionSize}
 use Rattle.fill.specs.Work.{workSize, trialsSize}
 use Rattle.matching.specs.Parts.{LevelParts, chunks, flat}
-use Rattle.matching.specs.Splice.{splice}
 use Rattle.matching.specs.Level.{partsAt, written}
 use Rattle.fill.specs.inner.Descent.{levelBelow, roomy}
 use Rattle.fill.specs.Counts.{differingPairs}
@@ -23,7 +24,6 @@ use Rattle.matching.proofs.Parts.PartExchange.{length-exchanged}
 use Rattle.matching.proofs.Buffers.Chunks.{length-chunks}
 use Rattle.fill.proofs.Buffers.HeldParts.{Region, region-end, region-other}
 use Rattle.matching.proofs.Buffers.PartLengths.{Long, long-chunks, length-flat, chunks-flat}
-use Rattle.matching.proofs.Buffers.Windows.{drop-here, drop-behind}
 use Rattle.fill.proofs.Descents.LevelsBelow.{Room, room-suc, room-first}
 use Rattle.fill.proofs.Lowered.TrialSizes.{trialSizes}
 use Rattle.fill.proofs.Lowered.CountedLevel.{links-fit, level-held, level-behind, level-pairs}

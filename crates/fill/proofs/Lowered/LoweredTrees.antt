@@ -8,10 +8,10 @@ use native.Mathlib.Nat.{not-suc-le-zero}
 use native.Mathlib.Omega.{arith}
 use lib.ListN.{length}
 use Rattle.diagram.specs.Tree.{Tree}
-use Rattle.diagram.specs.Fill.{Row, level, fill}
-use Rattle.diagram.specs.Network.{counts}
-use Rattle.diagram.proofs.Lowered.{exchange}
-use Rattle.diagram.proofs.LoweredCounts.{loweredNext, loweredCounts, lowered-one, lowered-suc, length-lowered-next}
+use Rattle.diagram.specs.Filling.Fill.{Row, level, fill}
+use Rattle.diagram.specs.Networks.Network.{counts}
+use Rattle.diagram.proofs.Orders.Lowered.{exchange}
+use Rattle.diagram.proofs.Orders.LoweredCounts.{loweredNext, loweredCounts, lowered-one, lowered-suc, length-lowered-next}
 use Rattle.fill.specs.inner.Descent.{levelBelow}
 use Rattle.fill.specs.inner.Lowering.{loweredBelow}
 use Rattle.matching.proofs.Parts.PartExchange.{exchanged-parts}

@@ -11,16 +11,18 @@ use native.Mathlib.Numerals.{add-one}
 use lib.Dec.{T, eqb}
 use lib.ListN.{length, getD, set, take, drop, length-append}
 use lib.Seq.{drop-drop, getD-drop}
-use Rattle.diagram.specs.Bound.{mostVariables}
+use Rattle.lists.specs.Written.{splice}
+use Rattle.lists.proofs.Numbers.UpTo.{getD-map-upTo}
+use Rattle.lists.proofs.Written.Splice.{drop-take}
+use Rattle.diagram.specs.Networks.Bound.{mostVariables}
 use Rattle.diagram.specs.Tree.{Tree}
-use Rattle.diagram.specs.Fill.{Row, level}
-use Rattle.diagram.specs.Network.{counts}
-use Rattle.diagram.specs.Order.{moved}
+use Rattle.diagram.specs.Filling.Fill.{Row, level}
+use Rattle.diagram.specs.Networks.Network.{counts}
+use Rattle.diagram.specs.Orders.Order.{moved}
 use Rattle.diagram.specs.Table.{filled}
-use Rattle.diagram.specs.inner.Trace.{differing}
-use Rattle.diagram.proofs.UpTo.{getD-map-upTo}
-use Rattle.diagram.proofs.LoweredCounts.{loweredNext, loweredCounts, lowered-suc}
-use Rattle.diagram.proofs.LoweredOrder.{lowered-afresh}
+use Rattle.diagram.specs.Networks.Trace.{differing}
+use Rattle.diagram.proofs.Orders.LoweredCounts.{loweredNext, loweredCounts, lowered-suc}
+use Rattle.diagram.proofs.Orders.LoweredOrder.{lowered-afresh}
 use Rattle.table.specs.declared.State.{State}
 use Rattle.table.specs.State.{orderOf, stageOf, isNothing}
 use Rattle.table.proofs.Held.{few-inputs, ordered}
@@ -29,13 +31,11 @@ use Rattle.matching.specs.Links.{regionSize}
 use Rattle.fill.specs.Work.{workSize, linksAt, trialsSize}
 use Rattle.fill.specs.Calls.{heldTable, drawnOutputs, perLevel, trialCounts, triedCounts}
 use Rattle.matching.specs.Parts.{LevelParts, chunks}
-use Rattle.matching.specs.Splice.{splice}
 use Rattle.matching.specs.Level.{partsAt}
 use Rattle.fill.specs.inner.Descent.{linksBelow, roomy}
 use Rattle.fill.specs.inner.Lowering.{firstParts, loweredBelow, countsFrom}
 use Rattle.fill.proofs.Buffers.HeldParts.{Region, region-end, region-other}
 use Rattle.matching.proofs.Buffers.PartLengths.{chunks-take}
-use Rattle.matching.proofs.Buffers.Splice.{drop-take}
 use Rattle.fill.proofs.Calls.Filling.{counts-traced}
 use Rattle.fill.proofs.Calls.HeldFilling.{few}
 use Rattle.fill.proofs.Counting.PerLevel.{per-level-more, per-level-take}

@@ -8,17 +8,17 @@ use Prim.Native.Nat.{ℕ, suc, _+_, _-_, _^_, _≤_, suc-le-suc}
 use native.Mathlib.Nat.{le-refl, le-suc}
 use native.Mathlib.Omega.{arith}
 use lib.ListN.{length, length-map}
+use Rattle.lists.proofs.Bools.{split, of-T, to-T}
+use Rattle.lists.proofs.Lists.Membership.{all-has, all-map, map-has}
 use Rattle.diagram.specs.Tree.{Tree, leaf, pairs, same}
-use Rattle.diagram.specs.Fill.{Row, always, Link, candidate, level, fill}
-use Rattle.diagram.specs.Network.{normal}
-use Rattle.diagram.proofs.Bools.{split, of-T, to-T}
-use Rattle.diagram.proofs.Lists.{all-has, all-map, map-has}
+use Rattle.diagram.specs.Filling.Fill.{Row, always, Link, candidate, level, fill}
+use Rattle.diagram.specs.Networks.Network.{normal}
 use Rattle.diagram.proofs.Tree.{same-equality, normal-normal, varies}
-use Rattle.diagram.proofs.Evened.{nextOf}
-use Rattle.diagram.proofs.Fill.{Along, new, met, next, Joined, fixed, linked, candidate-view, filled-length}
-use Rattle.diagram.proofs.FirstSeen.{varies-inverted}
-use Rattle.diagram.proofs.Apart.{apart-filled, varied-filled}
-use Rattle.diagram.proofs.Enumerate.{classes-of-varied}
+use Rattle.diagram.proofs.Filling.Evened.{nextOf}
+use Rattle.diagram.proofs.Filling.Fill.{Along, new, met, next, Joined, fixed, linked, candidate-view, filled-length}
+use Rattle.diagram.proofs.Tracing.FirstSeen.{varies-inverted}
+use Rattle.diagram.proofs.Filling.Apart.{apart-filled, varied-filled}
+use Rattle.diagram.proofs.Networks.Enumerate.{classes-of-varied}
 
 -- a candidate adds at most one
 

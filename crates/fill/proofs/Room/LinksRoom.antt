@@ -7,13 +7,13 @@ use native.Mathlib.Nat.{le-trans, le-min, min-le-left, min-le-right, add-le-add,
 use native.Mathlib.Omega.{arith}
 use lib.Dec.{T, leb, leb→le}
 use lib.ListN.{length, length-append}
-use Rattle.diagram.specs.Bound.{mostVariables, mostOutputs}
-use Rattle.diagram.specs.Lists.{all, upTo}
+use Rattle.lists.specs.Lists.{all, upTo}
+use Rattle.lists.proofs.Numbers.Compared.{all-upTo-at}
+use Rattle.diagram.specs.Networks.Bound.{mostVariables, mostOutputs}
 use Rattle.diagram.specs.Tree.{Tree}
-use Rattle.diagram.specs.Fill.{Row, level, trace}
-use Rattle.diagram.proofs.Evened.{nextOf, length-next}
-use Rattle.diagram.proofs.Fill.{links-length, trace-zero, trace-suc}
-use Rattle.diagram.proofs.Numbers.{all-upTo-at}
+use Rattle.diagram.specs.Filling.Fill.{Row, level, trace}
+use Rattle.diagram.proofs.Filling.Evened.{nextOf, length-next}
+use Rattle.diagram.proofs.Filling.Fill.{links-length, trace-zero, trace-suc}
 use Rattle.fill.specs.Work.{allLinks}
 use Rattle.fill.proofs.Room.EntriesRoom.{entries-candidates, entries-most}
 

@@ -11,14 +11,14 @@ use borrow.Author.Tests.{leb-true, leb-false}
 use lib.Dec.{T, leb, le→leb}
 use lib.ListN.{length, length-map}
 use lib.Pow.{pow-mono}
-use Rattle.diagram.specs.Bound.{mostVariables, mostOutputs}
+use Rattle.lists.proofs.Bools.{split, and-T}
+use Rattle.diagram.specs.Networks.Bound.{mostVariables, mostOutputs}
 use Rattle.diagram.specs.Tree.{Tree}
-use Rattle.diagram.specs.Fill.{Row}
-use Rattle.diagram.proofs.Bools.{split, and-T}
-use Rattle.diagram.proofs.Evened.{nextOf, length-next}
+use Rattle.diagram.specs.Filling.Fill.{Row}
+use Rattle.diagram.proofs.Filling.Evened.{nextOf, length-next}
 use Rattle.matching.specs.Links.{regionSize}
 use Rattle.reorder.specs.Sizes.{width}
-use Rattle.reorder.specs.inner.Pack.{encode}
+use Rattle.reorder.specs.Pack.{encode}
 use Rattle.matching.specs.Parts.{LevelParts}
 use Rattle.fill.specs.inner.Descent.{levelBelow, roomy}
 use Rattle.reorder.proofs.Pack.{width-small, width-suc, width-rows}

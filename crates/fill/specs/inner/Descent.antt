@@ -6,12 +6,12 @@ use mathlib.Core.List.{List, [], _∷_}
 use Prim.Native.Nat.{ℕ, zero, suc, _+_, _*_, _-_}
 use lib.Dec.{eqb, leb}
 use lib.ListN.{length, take, drop}
-use Rattle.diagram.specs.Fill.{Link}
+use Rattle.lists.specs.Written.{splice}
+use Rattle.diagram.specs.Filling.Fill.{Link}
 use Rattle.reorder.specs.Sizes.{width}
 use Rattle.matching.specs.Parts.{LevelParts, flat, offeredParts, levelParts}
 use Rattle.matching.specs.Links.{regionSize}
 use Rattle.fill.specs.Work.{linksAt, zeroWork}
-use Rattle.matching.specs.Splice.{splice}
 
 -- the level below entries of d + 1 variables: what their halves come to are its candidates
 abbrev pub levelBelow : ℕ → List (List ℕ) → LevelParts

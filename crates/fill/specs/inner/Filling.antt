@@ -3,15 +3,15 @@
 use mathlib.Core.Bool.{true}
 use mathlib.Core.List.{List, [], map}
 use Prim.Native.Nat.{ℕ}
-use Rattle.diagram.specs.Fill.{level, trace}
-use Rattle.diagram.specs.Network.{counts}
+use Rattle.diagram.specs.Filling.Fill.{level, trace}
+use Rattle.diagram.specs.Networks.Network.{counts}
 use Rattle.diagram.specs.Table.{filled, cost}
 use Rattle.table.specs.declared.Answer.{Answer}
 use Rattle.table.specs.declared.Answer.the-variants.{Done}
 use Rattle.table.specs.declared.State.{State}
 use Rattle.table.specs.State.{orderOf}
 use Rattle.fill.specs.declared.Levels.{Levels}
-use Rattle.reorder.specs.inner.Pack.{encode}
+use Rattle.reorder.specs.Pack.{encode}
 use Rattle.matching.specs.Links.{linkBytes}
 use Rattle.fill.specs.Work.{traceWork}
 use Rattle.fill.specs.Calls.{heldTable, drawnOutputs, entryCounts, perLevel}

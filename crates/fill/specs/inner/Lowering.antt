@@ -5,10 +5,10 @@ use mathlib.Core.Bool.{true}
 use mathlib.Core.List.{List, [], _++_, map}
 use Prim.Native.Nat.{ℕ, suc, _*_}
 use lib.ListN.{take}
-use Rattle.diagram.specs.Fill.{level}
-use Rattle.diagram.specs.inner.Trace.{differing}
+use Rattle.diagram.specs.Filling.Fill.{level}
+use Rattle.diagram.specs.Networks.Trace.{differing}
 use Rattle.table.specs.declared.State.{State}
-use Rattle.reorder.specs.inner.Pack.{encode}
+use Rattle.reorder.specs.Pack.{encode}
 use Rattle.matching.specs.Links.{regionSize}
 use Rattle.fill.specs.Calls.{drawnOutputs, perLevel}
 use Rattle.matching.specs.Parts.{LevelParts}

@@ -1,19 +1,15 @@
 -- The lent cells with no roots, what it takes to follow a row through them, and what the row gives at a root.
 -- Assumes nothing.
 use mathlib.Core.Bool.{Bool, true}
-use mathlib.Core.List.{List, [], map}
+use mathlib.Core.List.{List}
 use Prim.Native.Nat.{ℕ, _/_, _%_, _^_, _≤_}
 use lib.Dec.{T, eqb}
 use lib.ListN.{length, getD, take}
-use Rattle.diagram.specs.Lists.{all, upTo}
-use Rattle.diagram.specs.Diagram.{Diagram, refers, nodeGood, gives}
-use Rattle.diagram.specs.Bound.{mostVariables, mostOutputs}
-use Rattle.diagram.specs.Order.{isOrder, rowUnder}
-use Rattle.lent.specs.Lent.{lentNode}
-
--- a test of a cell, and what a row gives at a reference, look at the nodes alone
-unfoldable pub lentCells : ℕ → List ℕ → Diagram
-lentCells count cells = record { nodes = map (lentNode cells) (upTo count); roots = [] }
+use Rattle.lists.specs.Lists.{all}
+use Rattle.diagram.specs.Networks.Diagram.{refers, nodeGood, gives}
+use Rattle.diagram.specs.Networks.Bound.{mostVariables, mostOutputs}
+use Rattle.diagram.specs.Orders.Order.{isOrder, rowUnder}
+use Rattle.lent.specs.Lent.{lentCells}
 
 -- counted cells, all lent, that are good for n levels
 pub record Levelled (n count : ℕ) (cells : List ℕ) : Type 0 where

@@ -4,9 +4,9 @@ use mathlib.Core.Bool.{Bool, _&&_}
 use mathlib.Core.List.{List}
 use Prim.Native.Nat.{ℕ, _+_, _*_, _/_, _%_, _^_}
 use lib.Dec.{ltb}
-use Rattle.diagram.specs.Fill.{Row}
+use Rattle.lists.specs.Bits.{packed}
+use Rattle.diagram.specs.Filling.Fill.{Row}
 use Rattle.diagram.specs.Table.{Table}
-use Rattle.block.specs.Bits.{packed}
 use Rattle.table.specs.declared.State.{State}
 use Rattle.lent.specs.inner.Cells.{Followable, Rooted}
 

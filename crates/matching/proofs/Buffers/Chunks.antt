@@ -8,9 +8,9 @@ use native.Mathlib.Numerals.{add-one}
 use native.Mathlib.Omega.{arith}
 use lib.ListN.{length, take, drop, length-append, take-append-drop}
 use lib.Seq.{take-add, drop-drop}
+use Rattle.lists.specs.Written.{splice}
+use Rattle.lists.proofs.Written.Splice.{put-back}
 use Rattle.matching.specs.Parts.{chunks, flat}
-use Rattle.matching.specs.Splice.{splice}
-use Rattle.matching.proofs.Buffers.Splice.{put-back}
 
 pub flat-append : (ps qs : List (List ℕ)) → flat (ps ++ qs) ≡ flat ps ++ flat qs
 flat-append [] qs = refl

@@ -8,16 +8,16 @@ use native.Mathlib.Nat.{mul-le-mul-right}
 use native.Mathlib.Omega.{arith}
 use lib.ListN.{length, take, drop, length-drop, length-map}
 use lib.Seq.{take-take, drop-drop, length-take-le}
+use Rattle.lists.specs.Written.{splice}
+use Rattle.lists.proofs.Written.Splice.{drop-take, length-splice, splice-none, put-back}
+use Rattle.lists.proofs.Written.Windows.{drop-behind, splice-append}
 use Rattle.reorder.specs.Sizes.{width}
 use Rattle.matching.specs.Parts.{chunks, flat}
-use Rattle.matching.specs.Splice.{splice}
 use Rattle.matching.specs.Level.{partsAt}
 use Rattle.matching.specs.Exchange.{exchangedPlane, exchangedPart}
 use Rattle.matching.proofs.Parts.PartExchange.{length-exchanged}
 use Rattle.matching.proofs.Buffers.Chunks.{flat-append, length-chunks, chunks-more}
 use Rattle.matching.proofs.Buffers.PartLengths.{Long, long-chunks, length-flat}
-use Rattle.matching.proofs.Buffers.Splice.{drop-take, length-splice, splice-none, put-back}
-use Rattle.matching.proofs.Buffers.Windows.{drop-behind, splice-append}
 
 -- two planes make a part
 part-planes : (d : ℕ) (l : List ℕ)

@@ -8,8 +8,8 @@ use native.Mathlib.Nat.{le-div-iff-mul-le}
 use native.Mathlib.Omega.{arith}
 use borrow.Author.Tests.{leb-true, le-leb, ltb-true, lt-ltb, eqb-true, eq-eqb, not-true, not-false}
 use lib.Dec.{leb, ltb, eqb, leb→le, le→leb}
-use Rattle.diagram.specs.Bound.{mostVariables}
-use Rattle.diagram.proofs.Bools.{to-T, both-ways}
+use Rattle.lists.proofs.Bools.{to-T, both-ways}
+use Rattle.diagram.specs.Networks.Bound.{mostVariables}
 use Rattle.reorder.specs.Sizes.{width}
 use Rattle.matching.specs.Links.{regionSize, wordSize}
 use Rattle.matching.specs.Fits.{regionsApart, regionFits, regionsFit, countFits, levelFits, candidateFits, partsFit}

@@ -8,15 +8,15 @@ use native.Mathlib.Nat.{zero-mul, suc-mul, le-refl}
 use native.Mathlib.Omega.{arith}
 use lib.ListN.{length, take, drop, length-append, length-drop}
 use lib.Seq.{length-take-le, take-at, drop-at, take-take}
-use Rattle.diagram.specs.Fill.{Link}
-use Rattle.diagram.proofs.Bools.{split}
+use Rattle.lists.proofs.Bools.{split}
+use Rattle.lists.proofs.Written.Splice.{drop-take}
+use Rattle.diagram.specs.Filling.Fill.{Link}
 use Rattle.reorder.specs.Sizes.{width}
 use Rattle.matching.specs.Parts.{LevelParts, alwaysPart, agreePart, alongParts, candidatePart, levelParts, chunks, flat, halfPart}
 use Rattle.matching.specs.Parts.{unitedOr, offeredPart, offeredParts}
 use Rattle.matching.specs.Links.{linkNumber, linkBytes}
 use Rattle.matching.proofs.Parts.PartMerge.{length-merge}
 use Rattle.matching.proofs.Parts.PartHalves.{length-half}
-use Rattle.matching.proofs.Buffers.Splice.{drop-take}
 
 -- each part has s bytes
 abbrev pub Long : ℕ → List (List ℕ) → Type 0

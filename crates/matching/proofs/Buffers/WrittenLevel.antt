@@ -9,13 +9,13 @@ use native.Mathlib.Omega.{arith}
 use lib.Dec.{lit<}
 use lib.ListN.{length, getD, take, drop, List·getD-append}
 use lib.Seq.{getD-drop}
-use Rattle.diagram.specs.Fill.{Link}
+use Rattle.lists.specs.Written.{splice}
+use Rattle.lists.proofs.Written.Splice.{length-splice, splice-none}
+use Rattle.lists.proofs.Written.Windows.{window-before, drop-here, drop-behind, splice-over, splice-append, splice-swap}
+use Rattle.diagram.specs.Filling.Fill.{Link}
 use Rattle.matching.specs.Parts.{LevelParts, levelParts, chunks, flat}
 use Rattle.matching.specs.Links.{regionSize, linkBytes}
-use Rattle.matching.specs.Splice.{splice}
 use Rattle.matching.specs.Level.{written}
-use Rattle.matching.proofs.Buffers.Splice.{length-splice, splice-none}
-use Rattle.matching.proofs.Buffers.Windows.{window-before, drop-here, drop-behind, splice-over, splice-append, splice-swap}
 use Rattle.matching.proofs.Buffers.PartLengths.{Long, length-flat, chunks-flat, chunks-take, level-grown, level-links, length-links}
 use Rattle.matching.proofs.Buffers.PartLengths.{links-append, level-append}
 

@@ -10,16 +10,16 @@ use native.Mathlib.Numerals.{add-one}
 use native.Mathlib.Omega.{arith}
 use lib.Dec.{eqb}
 use lib.ListN.{length, take, drop, take-append-drop}
-use Rattle.diagram.specs.Lists.{digit}
-use Rattle.diagram.specs.Fill.{const, entry}
-use Rattle.diagram.proofs.Bools.{split}
-use Rattle.diagram.proofs.Bits.{digit-le, eqb-digit}
+use Rattle.lists.specs.Bits.{digit}
+use Rattle.lists.specs.Written.{splice}
+use Rattle.lists.proofs.Bools.{split}
+use Rattle.lists.proofs.Bits.Digits.{digit-le, eqb-digit}
+use Rattle.lists.proofs.Written.Splice.{put-back}
+use Rattle.diagram.specs.Filling.Fill.{const, entry}
 use Rattle.matching.specs.Parts.{LinkedPart, afterPart, agreePart, alwaysPart, mergePart, alongParts, candidatePart, chunks, flat}
 use Rattle.matching.specs.Links.{linkNumber}
-use Rattle.matching.specs.Splice.{splice}
 use Rattle.matching.specs.inner.Found.{foundLink}
 use Rattle.matching.proofs.Parts.PartMerge.{length-merge}
-use Rattle.matching.proofs.Buffers.Splice.{put-back}
 use Rattle.matching.proofs.Buffers.Chunks.{length-chunks, flat-chunks, chunks-more, chunks-from, withPart, length-with, flat-with}
 use Rattle.matching.proofs.Linking.First.{First, plain-first, inverted-first, found-first, found-pass, found-last}
 

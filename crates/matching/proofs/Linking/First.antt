@@ -6,9 +6,9 @@ use mathlib.Core.List.{List, [], _∷_}
 use Prim.Native.Nat.{ℕ, suc, _+_, _*_, _≤_, _<_}
 use native.Mathlib.Nat.{mul-le-mul-left, mul-le-mul-right}
 use native.Mathlib.Omega.{arith}
-use Rattle.diagram.specs.Lists.{digit}
-use Rattle.diagram.specs.Fill.{entry}
-use Rattle.diagram.proofs.Bools.{split}
+use Rattle.lists.specs.Bits.{digit}
+use Rattle.lists.proofs.Bools.{split}
+use Rattle.diagram.specs.Filling.Fill.{entry}
 use Rattle.matching.specs.Parts.{agreePart}
 use Rattle.matching.specs.inner.Found.{foundLink}
 use Rattle.matching.specs.Links.{linkNumber}

@@ -9,10 +9,10 @@ use native.Mathlib.Numerals.{add-one}
 use native.Mathlib.Omega.{arith}
 use lib.ListN.{length, take, drop, length-drop, take-append-drop}
 use lib.Seq.{length-take-le, take-at, drop-append-le, drop-drop}
+use Rattle.lists.specs.Written.{splice}
 use Rattle.reorder.specs.Sizes.{width}
 use Rattle.matching.specs.Parts.{candidatePart, levelParts, chunks, flat, halfPart}
 use Rattle.matching.specs.Links.{regionSize, linkNumber}
-use Rattle.matching.specs.Splice.{splice}
 use Rattle.matching.specs.Level.{partAt, written}
 use Rattle.matching.specs.inner.Words.{wordSize}
 use Rattle.matching.proofs.Buffers.Chunks.{length-chunks}

@@ -7,10 +7,10 @@ use Prim.Native.Nat.{ℕ, _+_, _*_, _≤_}
 use native.Mathlib.Nat.{mul-le-mul-right}
 use native.Mathlib.Omega.{arith}
 use lib.ListN.{length, getD, drop, length-drop}
+use Rattle.lists.specs.Written.{splice}
 use Rattle.reorder.specs.Sizes.{width}
 use Rattle.matching.specs.Links.{regionSize}
 use Rattle.matching.specs.Parts.{LevelParts, agreePart, unitedOr, candidatePart, levelParts}
-use Rattle.matching.specs.Splice.{splice}
 use Rattle.matching.specs.Level.{partsAt, written}
 use Rattle.matching.proofs.Buffers.Chunks.{length-chunks}
 use Rattle.matching.proofs.Buffers.PartLengths.{Long, long-chunks, level-grown}

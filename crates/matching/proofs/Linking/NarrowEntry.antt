@@ -12,11 +12,11 @@ use lib.Bits.{bitAnd, bitOr, bitXor}
 use lib.Dec.{eqb}
 use lib.ListN.{length, take, drop, length-append, drop-of-length-le}
 use lib.Seq.{take-all}
+use Rattle.lists.specs.Written.{splice}
+use Rattle.lists.proofs.Written.Windows.{splice-append}
 use Rattle.matching.specs.Bytes.{alwaysByte, agreeByte, mergeByte}
 use Rattle.matching.specs.Parts.{alwaysPart, agreePart, mergePart}
-use Rattle.matching.specs.Splice.{splice}
 use Rattle.matching.specs.inner.Words.{wordOf, bytesOf, partOf}
-use Rattle.matching.proofs.Buffers.Windows.{splice-append}
 use Rattle.matching.proofs.Linking.Along.{partOn}
 use Rattle.matching.proofs.Linking.First.{part-within}
 use Rattle.matching.proofs.Wordwise.Bytes.{Small, small-drop, length-bytes, word-lt}

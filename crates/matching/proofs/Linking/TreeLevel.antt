@@ -5,11 +5,11 @@ use mathlib.Core.Path.{_≡_, refl, ap}
 use mathlib.Core.Bool.{true, false}
 use mathlib.Core.List.{List, [], _∷_, map}
 use Prim.Native.Nat.{ℕ, suc}
+use Rattle.lists.proofs.Bools.{split}
 use Rattle.diagram.specs.Tree.{Tree}
-use Rattle.diagram.specs.Fill.{Row, always, agree, Linked, Level, along, candidate, level}
-use Rattle.diagram.proofs.Bools.{split}
+use Rattle.diagram.specs.Filling.Fill.{Row, always, agree, Linked, Level, along, candidate, level}
 use Rattle.reorder.specs.Sizes.{width}
-use Rattle.reorder.specs.inner.Pack.{encode}
+use Rattle.reorder.specs.Pack.{encode}
 use Rattle.matching.specs.Parts.{LinkedPart, LevelParts, afterPart, alongParts, candidatePart, levelParts}
 use Rattle.matching.proofs.Parts.TreeTests.{always-bytes, agree-bytes, merge-bytes}
 

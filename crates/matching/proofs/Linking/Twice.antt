@@ -5,8 +5,8 @@ use mathlib.Core.Bool.{Bool, true, false}
 use mathlib.Core.List.{List, [], _∷_}
 use Prim.Native.Nat.{ℕ, suc, _+_}
 use lib.ListN.{length}
-use Rattle.diagram.specs.Fill.{entry}
-use Rattle.diagram.proofs.Bools.{split}
+use Rattle.lists.proofs.Bools.{split}
+use Rattle.diagram.specs.Filling.Fill.{entry}
 use Rattle.matching.specs.Parts.{LinkedPart, afterPart, alwaysPart, agreePart, mergePart, alongParts, candidatePart, levelParts}
 use Rattle.matching.proofs.Parts.MergedAgain.{agree-again, merge-again, differ-again, merge-self}
 use Rattle.matching.proofs.Linking.Along.{along-first, along-pass}

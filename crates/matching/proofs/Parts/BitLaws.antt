@@ -7,8 +7,8 @@ use native.Mathlib.Nat.{le-refl}
 use native.Mathlib.Omega.{arith}
 use lib.Bits.{bitAnd, bitOr, bitXor, and-block, or-block, xor-block, and-lt, or-lt, xor-lt}
 use lib.Dec.{T, eqb, eqb→eq}
-use Rattle.diagram.specs.Lists.{digit}
-use Rattle.diagram.proofs.Bits.{digit-eqb}
+use Rattle.lists.specs.Bits.{digit}
+use Rattle.lists.proofs.Bits.Digits.{digit-eqb}
 use Rattle.matching.proofs.Parts.Blockwise.{cond-block, cond-lt, every, every-at}
 
 -- a term over four numbers: F and C a candidate's values and care, G and D an entry's

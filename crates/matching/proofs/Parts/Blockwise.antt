@@ -8,8 +8,8 @@ use native.Mathlib.Nat.{zero-mul, add-zero}
 use lib.Bits.{bitAnd, bitOr, bitXor, and-block, or-block, xor-block, and-lt, xor-lt}
 use lib.Dec.{T, eqb, eqb→eq, eqb-refl}
 use lib.Pow.{high, low, pow-pos}
-use Rattle.diagram.specs.Lists.{digit, flip}
-use Rattle.diagram.proofs.Bools.{and-T, and-l, and-r, both-ways, beq→eq}
+use Rattle.lists.specs.Bits.{digit, flip}
+use Rattle.lists.proofs.Bools.{and-T, and-l, and-r, both-ways, beq→eq}
 use Rattle.matching.specs.Bytes.{alwaysByte, agreeByte, mergeByte}
 
 -- two numbers are equal when their high parts are, and their low parts

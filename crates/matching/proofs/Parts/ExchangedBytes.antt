@@ -12,15 +12,15 @@ use lib.Arith.{digits-lt}
 use lib.ListN.{length, getD, set, take, drop, length-drop}
 use lib.Pow.{pow-add, pow-pos}
 use lib.Seq.{take-take, take-all, take-at, drop-drop, length-take-le, getD-take, getD-drop}
-use Rattle.diagram.specs.Lists.{digit}
-use Rattle.diagram.proofs.Bits.{digit-part-le}
+use Rattle.lists.specs.Bits.{digit}
+use Rattle.lists.specs.Written.{splice}
+use Rattle.lists.proofs.Bits.Digits.{digit-part-le}
+use Rattle.lists.proofs.Written.Splice.{drop-take, splice-front, length-front, length-splice-take, getD-before, getD-behind}
+use Rattle.lists.proofs.Written.Splice.{set-before, splice-none, splice-more}
+use Rattle.lists.proofs.Written.Windows.{drop-behind}
 use Rattle.reorder.specs.Sizes.{width}
 use Rattle.matching.specs.Parts.{halfByte}
-use Rattle.matching.specs.Splice.{splice}
 use Rattle.matching.specs.Exchange.{joinByte, pairedByte, exchangedByte, exchangedPlane}
-use Rattle.matching.proofs.Buffers.Splice.{drop-take, splice-front, length-front, length-splice-take, getD-before, getD-behind}
-use Rattle.matching.proofs.Buffers.Splice.{set-before, splice-none, splice-more}
-use Rattle.matching.proofs.Buffers.Windows.{drop-behind}
 
 -- one byte
 

@@ -8,10 +8,10 @@ use lib.Bits.{bitAnd, bitOr, bitXor, and-zero-l, and-zero-r, or-self}
 use lib.Dec.{T, eqb, eqb→eq, eqb-refl}
 use lib.ListN.{length, getD, List·getD-append}
 use lib.Seq.{getD-append-add, ext-getD}
-use Rattle.diagram.specs.Lists.{upTo}
-use Rattle.diagram.proofs.Bools.{split, of-T, to-T, absurd-T}
-use Rattle.diagram.proofs.Numbers.{all-upTo-at, all-upTo-of}
-use Rattle.diagram.proofs.UpTo.{map-upTo-cong, map-upTo-add, length-map-upTo, getD-map-upTo}
+use Rattle.lists.specs.Lists.{upTo}
+use Rattle.lists.proofs.Bools.{split, of-T, to-T, absurd-T}
+use Rattle.lists.proofs.Numbers.Compared.{all-upTo-at, all-upTo-of}
+use Rattle.lists.proofs.Numbers.UpTo.{map-upTo-cong, map-upTo-add, length-map-upTo, getD-map-upTo}
 use Rattle.matching.specs.Bytes.{agreeByte, mergeByte}
 use Rattle.matching.specs.Parts.{valueByte, careByte, agreePart, mergePart}
 use Rattle.matching.proofs.Parts.BitLaws.{Term, F, C, G, D, and, or, xor, when, on-numbers}

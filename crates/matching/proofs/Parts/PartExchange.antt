@@ -10,14 +10,14 @@ use lib.Arith.{le→nltb}
 use lib.Dec.{ltb, lt→ltb}
 use lib.ListN.{length, drop, length-append, length-drop}
 use lib.Seq.{take-at, drop-at, length-take-le}
-use Rattle.diagram.specs.Lists.{digit}
+use Rattle.lists.specs.Bits.{digit}
+use Rattle.lists.proofs.Bools.{of-T, of-not}
+use Rattle.lists.proofs.Bits.Digits.{digit-part-le}
 use Rattle.diagram.specs.Tree.{Tree, node, half}
-use Rattle.diagram.specs.Fill.{Row}
-use Rattle.diagram.proofs.Bools.{of-T, of-not}
-use Rattle.diagram.proofs.Bits.{digit-part-le}
-use Rattle.diagram.proofs.Lowered.{exchange}
+use Rattle.diagram.specs.Filling.Fill.{Row}
+use Rattle.diagram.proofs.Orders.Lowered.{exchange}
 use Rattle.reorder.specs.Sizes.{width}
-use Rattle.reorder.specs.inner.Pack.{pack, encode}
+use Rattle.reorder.specs.Pack.{pack, encode}
 use Rattle.reorder.proofs.Pack.{by-width, pack-small, pack-length, width-small, width-suc}
 use Rattle.matching.specs.Parts.{halfBytes}
 use Rattle.matching.specs.Exchange.{joinBytes, pairedBytes, exchangedPlane, exchangedPart}

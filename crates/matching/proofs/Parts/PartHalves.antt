@@ -13,13 +13,13 @@ use lib.Dec.{leb, ltb, lit<, lit≤}
 use lib.Pow.{pow-add, pow-mono}
 use lib.ListN.{length, getD, take, drop, length-drop, length-append}
 use lib.Seq.{take-take, drop-drop, length-take-le, getD-take, getD-drop}
-use Rattle.diagram.specs.Lists.{digit}
-use Rattle.diagram.proofs.Bools.{split}
-use Rattle.diagram.proofs.Bits.{digit-part-le}
+use Rattle.lists.specs.Bits.{digit}
+use Rattle.lists.specs.Written.{splice}
+use Rattle.lists.proofs.Bools.{split}
+use Rattle.lists.proofs.Bits.Digits.{digit-part-le}
+use Rattle.lists.proofs.Written.Splice.{drop-take, splice-two}
 use Rattle.reorder.specs.Sizes.{width}
 use Rattle.matching.specs.Parts.{halfByte, halfPart}
-use Rattle.matching.specs.Splice.{splice}
-use Rattle.matching.proofs.Buffers.Splice.{drop-take, splice-two}
 use Rattle.reorder.proofs.Pack.{width-small, width-suc, width-rows, by-width}
 
 width-pos-step : (b : Bool) (n : ℕ) → 0 < n → 0 < cond b 1 (n + n)

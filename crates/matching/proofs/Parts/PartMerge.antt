@@ -8,12 +8,12 @@ use native.Mathlib.Omega.{arith}
 use lib.Bits.{bitAnd, bitOr, bitXor, xor-zero-r}
 use lib.ListN.{length, getD, set, drop, drop-of-length-le, length-append}
 use lib.Seq.{take-at}
-use Rattle.diagram.specs.Lists.{upTo}
-use Rattle.diagram.proofs.UpTo.{map-upTo-more, length-map-upTo}
+use Rattle.lists.specs.Lists.{upTo}
+use Rattle.lists.specs.Written.{splice}
+use Rattle.lists.proofs.Numbers.UpTo.{map-upTo-more, length-map-upTo}
+use Rattle.lists.proofs.Written.Splice.{length-splice, splice-none, getD-before, getD-behind, set-end, set-before}
 use Rattle.matching.specs.Bytes.{mergeByte}
 use Rattle.matching.specs.Parts.{mergePart, valueByte, careByte}
-use Rattle.matching.specs.Splice.{splice}
-use Rattle.matching.proofs.Buffers.Splice.{length-splice, splice-none, getD-before, getD-behind, set-end, set-before}
 
 -- without inversion the exclusive or with 0 falls away
 pub merge-plain : (i : Bool) (f c g : ℕ) → i ≡ false → bitOr (bitAnd f c) (bitXor (bitAnd g c) g) ≡ mergeByte i f c g

@@ -7,13 +7,13 @@ use mathlib.Core.List.{List, [], _∷_, _++_, map}
 use Prim.Native.Nat.{ℕ, zero, suc, _+_, _≤_, _<_, zero-le}
 use lib.ListN.{getD, List·getD-append}
 use lib.Seq.{getD-append-add}
-use Rattle.diagram.specs.Lists.{all, upTo}
+use Rattle.lists.specs.Lists.{all, upTo}
+use Rattle.lists.proofs.Numbers.UpTo.{map-upTo-cong, map-upTo-add}
+use Rattle.lists.proofs.Lists.Membership.{all-append-and}
 use Rattle.diagram.specs.Tree.{Tree, leaf, node}
-use Rattle.diagram.specs.Fill.{Row}
-use Rattle.diagram.proofs.UpTo.{map-upTo-cong, map-upTo-add}
-use Rattle.diagram.proofs.Lists.{all-append-and}
+use Rattle.diagram.specs.Filling.Fill.{Row}
 use Rattle.reorder.specs.Sizes.{width}
-use Rattle.reorder.specs.inner.Pack.{num, pack, encode}
+use Rattle.reorder.specs.Pack.{num, pack, encode}
 use Rattle.matching.specs.Parts.{valueByte, careByte}
 use Rattle.reorder.proofs.Pack.{width-small, width-suc, by-width, pack-small, pack-node, pack-length}
 

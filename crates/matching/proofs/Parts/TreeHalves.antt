@@ -11,13 +11,13 @@ use lib.Dec.{ltb, lt→ltb}
 use lib.ListN.{take, drop}
 use lib.Pow.{high, low}
 use lib.Seq.{take-at, drop-at, take-all}
-use Rattle.diagram.specs.Lists.{digit}
+use Rattle.lists.specs.Bits.{digit}
+use Rattle.lists.proofs.Bools.{split, of-T, of-not}
 use Rattle.diagram.specs.Tree.{Tree, node, half}
-use Rattle.diagram.specs.Fill.{Row, unites, united}
-use Rattle.diagram.proofs.Bools.{split, of-T, of-not}
-use Rattle.diagram.proofs.Evened.{evened, nextOf}
+use Rattle.diagram.specs.Filling.Fill.{Row, unites, united}
+use Rattle.diagram.proofs.Filling.Evened.{evened, nextOf}
 use Rattle.reorder.specs.Sizes.{width}
-use Rattle.reorder.specs.inner.Pack.{num, pack, encode}
+use Rattle.reorder.specs.Pack.{num, pack, encode}
 use Rattle.matching.specs.Parts.{agreePart, mergePart, halfBytes, halfPart, offeredPart, offeredParts}
 use Rattle.reorder.proofs.Pack.{by-width, pack-small, pack-length, num-lt}
 use Rattle.matching.proofs.Parts.TreeTests.{agree-bytes, merge-bytes}

@@ -5,13 +5,13 @@ use mathlib.Core.Bool.{Bool, _&&_}
 use mathlib.Core.List.{_++_}
 use Prim.Native.Nat.{ℕ, _*_, _+_, _^_}
 use lib.Bits.{bitOr, or-block}
-use Rattle.diagram.specs.Lists.{upTo}
+use Rattle.lists.specs.Lists.{upTo}
+use Rattle.lists.proofs.Lists.Membership.{all-mapped}
 use Rattle.diagram.specs.Tree.{Tree, leaf, node}
-use Rattle.diagram.specs.Fill.{Row, always, agree, merge}
-use Rattle.diagram.proofs.Lists.{all-mapped}
+use Rattle.diagram.specs.Filling.Fill.{Row, always, agree, merge}
 use Rattle.matching.specs.Bytes.{alwaysByte, agreeByte, mergeByte}
 use Rattle.reorder.specs.Sizes.{width}
-use Rattle.reorder.specs.inner.Pack.{num, encode}
+use Rattle.reorder.specs.Pack.{num, encode}
 use Rattle.matching.specs.Parts.{valueByte, careByte, alwaysPart, agreePart, mergePart}
 use Rattle.reorder.proofs.Pack.{num-lt}
 use Rattle.matching.proofs.Parts.Blockwise.{always-block, agree-block, merge-block, always-digit, agree-digit, merge-digit, or-digit}

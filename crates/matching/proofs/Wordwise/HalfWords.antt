@@ -12,15 +12,15 @@ use lib.Dec.{lit<}
 use lib.ListN.{length, getD, take, drop, length-drop}
 use lib.Pow.{pow-pos, pow-mono, field, mod-mod-pow}
 use lib.Seq.{getD-take, take-all, take-take, drop-drop, length-take-le}
-use Rattle.diagram.specs.Lists.{digit}
-use Rattle.diagram.proofs.Bits.{digit-part-le, one-shifted}
+use Rattle.lists.specs.Bits.{digit}
+use Rattle.lists.proofs.Bits.Digits.{digit-part-le, one-shifted}
+use Rattle.lists.proofs.Written.Splice.{drop-take}
+use Rattle.lists.proofs.Written.Windows.{window-within}
 use Rattle.reorder.specs.Sizes.{width}
 use Rattle.reorder.proofs.Pack.{width-small, width-suc, width-rows, by-width}
 use Rattle.matching.specs.Level.{partAt}
 use Rattle.matching.specs.Parts.{halfByte, halfBytes, halfPart}
 use Rattle.matching.specs.inner.Words.{wordOf, bytesOf, partOf}
-use Rattle.matching.proofs.Buffers.Splice.{drop-take}
-use Rattle.matching.proofs.Buffers.Windows.{window-within}
 use Rattle.matching.proofs.Parts.PartHalves.{width-pos, width-narrow}
 use Rattle.matching.proofs.Wordwise.Bytes.{Small, small-drop, small-take, word-lt, word-take, word-drop, bytes-word}
 

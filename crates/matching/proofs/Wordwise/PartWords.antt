@@ -11,9 +11,9 @@ use lib.Bits.{bitAnd, bitOr, bitXor, and-zero-l, and-zero-r, or-block, and-lt, o
 use lib.Dec.{eqb}
 use lib.ListN.{length, getD, take, drop, length-drop, List·getD-append}
 use lib.Seq.{getD-append-add, take-add, take-take, drop-drop, length-take-le}
-use Rattle.diagram.specs.Lists.{all, upTo}
-use Rattle.diagram.proofs.Lists.{all-mapped}
-use Rattle.diagram.proofs.UpTo.{map-upTo-first, map-upTo-cong}
+use Rattle.lists.specs.Lists.{all, upTo}
+use Rattle.lists.proofs.Lists.Membership.{all-mapped}
+use Rattle.lists.proofs.Numbers.UpTo.{map-upTo-first, map-upTo-cong}
 use Rattle.matching.specs.Bytes.{alwaysByte, agreeByte, mergeByte}
 use Rattle.matching.specs.Parts.{valueByte, careByte, alwaysPart, agreePart, mergePart}
 use Rattle.matching.specs.inner.Words.{wordOf, bytesOf, partOf}

@@ -10,10 +10,10 @@ use lib.Bits.{bitAnd, bitOr, bitXor, and-le-l, and-le-r, or-add-and, xor-add-and
 use lib.Dec.{eqb, eqb→eq, eqb-refl}
 use lib.ListN.{length, getD, take, drop, length-drop}
 use lib.Seq.{getD-take, getD-drop, length-take-le, take-all}
-use Rattle.diagram.specs.Lists.{all, upTo}
-use Rattle.diagram.proofs.Bools.{and-l, and-r, both-ways}
-use Rattle.diagram.proofs.Lists.{all-mapped, all-append-and}
-use Rattle.diagram.proofs.UpTo.{map-upTo-add, map-upTo-cong}
+use Rattle.lists.specs.Lists.{all, upTo}
+use Rattle.lists.proofs.Bools.{and-l, and-r, both-ways}
+use Rattle.lists.proofs.Lists.Membership.{all-mapped, all-append-and}
+use Rattle.lists.proofs.Numbers.UpTo.{map-upTo-add, map-upTo-cong}
 use Rattle.matching.specs.Bytes.{agreeByte}
 use Rattle.matching.specs.Parts.{valueByte, careByte}
 use Rattle.matching.specs.inner.Words.{wordOf, bytesOf}

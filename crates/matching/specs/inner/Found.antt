@@ -3,7 +3,7 @@
 use mathlib.Core.Bool.{true, false, cond}
 use mathlib.Core.List.{List, [], _∷_}
 use Prim.Native.Nat.{ℕ, suc}
-use Rattle.diagram.specs.Fill.{entry}
+use Rattle.diagram.specs.Filling.Fill.{entry}
 use Rattle.matching.specs.Parts.{agreePart}
 use Rattle.matching.specs.Links.{linkNumber}
 

@@ -3,9 +3,9 @@
 use mathlib.Core.List.{List, map}
 use Prim.Native.Nat.{ℕ, _^_}
 use lib.ListN.{take}
-use Rattle.diagram.specs.Lists.{upTo}
-use Rattle.diagram.specs.Bound.{mostVariables}
-use Rattle.diagram.specs.Order.{behind}
+use Rattle.lists.specs.Lists.{upTo}
+use Rattle.diagram.specs.Networks.Bound.{mostVariables}
+use Rattle.diagram.specs.Orders.Order.{behind}
 
 -- the drawn row behind each row of a single one, the lowest bit first
 unfoldable pub rowShares : ℕ → List ℕ → List ℕ

@@ -5,7 +5,7 @@ use mathlib.Core.List.{List}
 use Prim.Native.Nat.{ℕ, _+_, _*_, _%_, _^_}
 use lib.Dec.{ltb, leb}
 use lib.ListN.{getD}
-use Rattle.block.specs.Bits.{packed}
+use Rattle.lists.specs.Bits.{packed}
 
 -- bit x of a stream of `end` bits, 2ⁿ an output: whether its row was counted so many times
 unfoldable pub careBit : List ℕ → ℕ → ℕ → ℕ → ℕ → Bool

@@ -5,9 +5,10 @@ use mathlib.Core.List.{List}
 use Prim.Native.Nat.{ℕ}
 use lib.Dec.{eqb, ltb}
 use lib.ListN.{getD}
-use Rattle.diagram.specs.Lists.{index, keep, upTo}
+use Rattle.lists.specs.Lists.{index, keep, upTo}
+use Rattle.lists.specs.Most.{most}
 use Rattle.diagram.specs.Table.{Table}
-use Rattle.diagram.specs.Sift.{nodesOf, most}
+use Rattle.diagram.specs.Orders.Sift.{nodesOf}
 use Rattle.sift.specs.declared.choice.Lead.{Lead}
 
 -- who leads after the variable v, with so many nodes: one marked as sifted never does

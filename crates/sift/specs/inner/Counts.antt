@@ -6,8 +6,8 @@ use mathlib.Core.Bool.{true}
 use mathlib.Core.List.{List, sum}
 use Prim.Native.Nat.{ℕ, _+_, _<_}
 use lib.IntN.{ℤ, pos, _-ℤ_}
-use Rattle.diagram.specs.Network.{counts}
-use Rattle.diagram.specs.Order.{moved}
+use Rattle.diagram.specs.Networks.Network.{counts}
+use Rattle.diagram.specs.Orders.Order.{moved}
 use Rattle.diagram.specs.Table.{Table, filled}
 use Rattle.fill.specs.Calls.{perLevel, countsOf}
 

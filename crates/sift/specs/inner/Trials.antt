@@ -4,10 +4,10 @@ use mathlib.Core.Bool.{Bool, cond, _&&_, _||_}
 use mathlib.Core.List.{List}
 use Prim.Native.Nat.{ℕ, _+_}
 use lib.Dec.{eqb, ltb}
-use Rattle.diagram.specs.Lists.{index}
-use Rattle.diagram.specs.Order.{moved}
+use Rattle.lists.specs.Lists.{index}
+use Rattle.diagram.specs.Orders.Order.{moved}
 use Rattle.diagram.specs.Table.{Table, cost}
-use Rattle.diagram.specs.Sift.{chosen, sift}
+use Rattle.diagram.specs.Orders.Sift.{chosen, sift}
 use Rattle.sift.specs.declared.trials.Best.{Best}
 use Rattle.sift.specs.declared.trials.Sifted.{Sifted}
 use Rattle.sift.specs.inner.Counts.{countsUnder}

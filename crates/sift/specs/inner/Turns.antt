@@ -6,10 +6,10 @@ use mathlib.Core.List.{List, _++_, map}
 use Prim.Native.Nat.{ℕ, _+_}
 use lib.Dec.{eqb}
 use lib.ListN.{length, set, take, drop}
-use Rattle.diagram.specs.Bound.{mostVariables}
-use Rattle.diagram.specs.Lists.{has, upTo}
+use Rattle.lists.specs.Lists.{has, upTo}
+use Rattle.diagram.specs.Networks.Bound.{mostVariables}
 use Rattle.diagram.specs.Table.{Table}
-use Rattle.diagram.specs.Sift.{sift, Pass}
+use Rattle.diagram.specs.Orders.Sift.{sift, Pass}
 use Rattle.table.specs.declared.State.{State}
 use Rattle.fill.specs.Calls.{heldTable}
 use Rattle.sift.specs.declared.passes.Progress.{Progress}

@@ -6,10 +6,10 @@ use mathlib.Core.List.{List, [], _∷_, map}
 use Prim.Native.Nat.{ℕ, _+_, _*_, _-_, _/_, _%_, _≤_, _<_}
 use lib.Dec.{T}
 use lib.ListN.{length, getD, take}
-use Rattle.diagram.specs.Lists.{distinct}
-use Rattle.diagram.specs.Fill.{Link}
-use Rattle.diagram.specs.Diagram.{Node}
-use Rattle.diagram.specs.inner.Exchange.{Pair, pair, normalPair, sameClass, levelPairs}
+use Rattle.lists.specs.Lists.{distinct}
+use Rattle.diagram.specs.Filling.Fill.{Link}
+use Rattle.diagram.specs.Networks.Diagram.{Node}
+use Rattle.diagram.specs.Exchanging.Exchange.{Pair, pair, normalPair, sameClass, levelPairs}
 use Rattle.matching.specs.Links.{linkNumber}
 use Rattle.lent.specs.Lent.{lentNode}
 use Rattle.network.specs.Levels.{storedLimit, putStored}

@@ -3,7 +3,8 @@
 use borrow.Author.Needs.{needs}
 use native.Mathlib.Omega.{arith}
 use denote.Ref.{now}
-use Rattle.block.proofs.StreamBits.{mask-below, bit-shifted}
+use Rattle.lists.proofs.Bits.Masks.{mask-below}
+use Rattle.block.proofs.StreamBits.{bit-shifted}
 use Rattle.block.proofs.bits.digit_at.Statement.{statement}
 use Rattle.block.proofs.bits.digit_at.Tie as tie
 

@@ -4,9 +4,10 @@ use mathlib.Core.Path.{_≡_, refl}
 use Prim.Native.Nat.{suc, _*_, _-_, _≤_}
 use denote.Ref.{now}
 use native.Mathlib.Omega.{arith}
+use Rattle.lists.specs.Sums.{sumBelow}
+use Rattle.lists.proofs.Numbers.Sums.{sum-more}
 use Rattle.block.specs.Block.{checkAt, byte}
-use Rattle.block.specs.Bits.{sumBelow}
-use Rattle.block.proofs.Check.{sum-more, check-is}
+use Rattle.block.proofs.Check.{check-is}
 use Rattle.block.proofs.block.check_of.Statement.{statement}
 use Rattle.block.proofs.block.check_of.Tie as tie
 

@@ -7,7 +7,7 @@ use Prim.Native.Nat.{_-_, _≤_}
 use native.Mathlib.Omega.{arith}
 use denote.Ref.{now}
 use lib.ListN.{length}
-use Rattle.diagram.specs.Lists.{all, upTo}
+use Rattle.lists.specs.Lists.{all, upTo}
 use Rattle.block.proofs.Elements.{below, one-beyond, one-below, every-below}
 use Rattle.block.proofs.numbers.all_below.Statement.{statement}
 use Rattle.block.proofs.numbers.all_below.Tie as tie

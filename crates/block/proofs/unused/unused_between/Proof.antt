@@ -8,10 +8,10 @@ use denote.Ref.{now}
 use borrow.Author.Tests.{eq-eqb, ne-eqb}
 use native.Mathlib.Omega.{arith}
 use lib.Dec.{T, eqb}
-use Rattle.diagram.specs.Lists.{all, upTo}
-use Rattle.diagram.proofs.Numbers.{all-upTo-fails}
+use Rattle.lists.specs.Lists.{all, upTo}
+use Rattle.lists.proofs.Numbers.Compared.{all-upTo-fails}
+use Rattle.lists.proofs.Numbers.Below.{all-end}
 use Rattle.block.specs.Block.{byte, unusedBetween}
-use Rattle.block.proofs.Below.{all-end}
 use Rattle.block.proofs.UnusedBits.{passed-more}
 use Rattle.block.proofs.unused.unused_between.Statement.{statement}
 use Rattle.block.proofs.unused.unused_between.Tie as tie

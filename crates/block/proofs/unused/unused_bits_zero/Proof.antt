@@ -6,11 +6,11 @@ use denote.Ref.{now}
 use borrow.Author.Tests.{not-true, not-false}
 use native.Mathlib.Omega.{arith}
 use lib.Dec.{T}
-use Rattle.diagram.specs.Lists.{all, upTo}
-use Rattle.diagram.proofs.Numbers.{all-upTo-fails}
+use Rattle.lists.specs.Lists.{all, upTo}
+use Rattle.lists.proofs.Numbers.Compared.{all-upTo-fails}
+use Rattle.lists.proofs.Numbers.Below.{all-more, all-end}
 use Rattle.block.specs.Block.{contentSize}
 use Rattle.block.specs.inner.UnusedByte.{unusedByteZero}
-use Rattle.block.proofs.Below.{all-more, all-end}
 use Rattle.block.proofs.UnusedBits.{by-bytes}
 use Rattle.block.proofs.unused.unused_bits_zero.Statement.{statement}
 use Rattle.block.proofs.unused.unused_bits_zero.Tie as tie

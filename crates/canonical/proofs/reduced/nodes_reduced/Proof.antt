@@ -6,8 +6,8 @@ use mathlib.Core.Bool.{true}
 use Prim.Native.Nat.{_≤_, _-_}
 use borrow.Author.Tests.{not-true, not-false}
 use denote.Ref.{now}
-use Rattle.diagram.specs.Lists.{all, upTo}
-use Rattle.diagram.proofs.Numbers.{all-upTo-more}
+use Rattle.lists.specs.Lists.{all, upTo}
+use Rattle.lists.proofs.Numbers.Compared.{all-upTo-more}
 use Rattle.canonical.specs.inner.Reduced.{isNew, Slotted}
 use Rattle.canonical.proofs.Nodes.{reducedAt, slotted-none, slotted-more, redundant, not-new, all-reduced}
 use Rattle.canonical.proofs.reduced.nodes_reduced.Statement.{statement}

@@ -6,8 +6,8 @@ use mathlib.Core.Bool.{false}
 use Prim.Native.Nat.{ℕ, _≤_, _-_}
 use native.Mathlib.Omega.{arith}
 use denote.Ref.{now}
-use Rattle.diagram.specs.Lists.{has}
-use Rattle.diagram.specs.Diagram.{sameNode}
+use Rattle.lists.specs.Lists.{has}
+use Rattle.diagram.specs.Networks.Diagram.{sameNode}
 use Rattle.lent.specs.Lent.{lentNode}
 use Rattle.canonical.specs.inner.Reduced.{lentNodes}
 use Rattle.canonical.proofs.Nodes.{repeated-none, repeated-more, repeated-at}

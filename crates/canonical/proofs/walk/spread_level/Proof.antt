@@ -7,7 +7,7 @@ use native.Mathlib.Omega.{arith}
 use denote.Ref.{now}
 use lib.Dec.{eqb}
 use lib.ListN.{length, take}
-use Rattle.diagram.specs.Lists.{firsts}
+use Rattle.lists.specs.Lists.{firsts}
 use Rattle.canonical.specs.inner.Walk.{lentSpread, Own, Holds}
 use Rattle.canonical.proofs.Listed.{within-at, holds-as, holds-own}
 use Rattle.canonical.proofs.Spread.{spread-turn}

@@ -8,8 +8,8 @@ use native.Mathlib.Omega.{arith}
 use denote.Ref.{now}
 use lib.Dec.{eqb}
 use lib.ListN.{length, take}
-use Rattle.diagram.specs.Lists.{firsts}
-use Rattle.diagram.specs.inner.Structure.{allTargets}
+use Rattle.lists.specs.Lists.{firsts}
+use Rattle.diagram.specs.Canonical.Structure.{allTargets}
 use Rattle.canonical.specs.inner.Walk.{Holds}
 use Rattle.canonical.proofs.Listed.{holds-as, holds-own}
 use Rattle.canonical.proofs.Spread.{roots-turn}

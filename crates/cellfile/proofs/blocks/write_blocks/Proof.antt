@@ -5,9 +5,9 @@ use Prim.Native.Nat.{ℕ, suc, _+_, _*_, _-_, _≤_}
 use native.Mathlib.Omega.{arith}
 use denote.Ref.{now}
 use lib.ListN.{length}
+use Rattle.lists.specs.Written.{over}
+use Rattle.lists.proofs.Written.Over.{length-over}
 use Rattle.block.specs.Block.{blockSize}
-use Rattle.table.specs.Calls.{over}
-use Rattle.table.proofs.Over.{length-over}
 use Rattle.cellfile.specs.Write.{fileByte}
 use Rattle.cellfile.proofs.Format.FileSizes.{file-size, cell-blocks-most}
 use Rattle.cellfile.proofs.Writing.WrittenBlocks.{over-further, over-already}

@@ -6,11 +6,11 @@ use Prim.Native.Nat.{ℕ, suc, _+_, _*_, _-_, _≤_}
 use native.Mathlib.Omega.{arith}
 use denote.Ref.{now}
 use lib.ListN.{length}
-use Rattle.block.specs.Bits.{sumBelow}
+use Rattle.lists.specs.Sums.{sumBelow}
+use Rattle.lists.specs.Written.{over}
+use Rattle.lists.proofs.Numbers.Sums.{sum-more}
+use Rattle.lists.proofs.Written.Over.{length-over}
 use Rattle.block.specs.Block.{blockSize, checkAt}
-use Rattle.block.proofs.Check.{sum-more}
-use Rattle.table.specs.Calls.{over}
-use Rattle.table.proofs.Over.{length-over}
 use Rattle.cellfile.specs.Write.{blockContent, fileByte}
 use Rattle.cellfile.specs.inner.Writable.{blockSum}
 use Rattle.cellfile.proofs.Writing.WrittenBlocks.{content-next}

@@ -5,8 +5,8 @@ use Prim.Native.Nat.{_*_, _≤_, _-_}
 use native.Mathlib.Omega.{arith}
 use denote.Ref.{now}
 use lib.ListN.{length}
-use Rattle.table.specs.Calls.{over}
-use Rattle.table.proofs.Over.{over-next, length-over}
+use Rattle.lists.specs.Written.{over}
+use Rattle.lists.proofs.Written.Over.{over-next, length-over}
 use Rattle.cellfile.specs.File.{cellNumber}
 use Rattle.cellfile.proofs.copy.copy_cells.Statement.{statement}
 use Rattle.cellfile.proofs.copy.copy_cells.Tie as tie

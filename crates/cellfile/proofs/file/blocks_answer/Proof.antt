@@ -6,7 +6,7 @@ use denote.Ref.{now}
 use borrow.Author.Tests.{not-true, not-false}
 use native.Mathlib.Omega.{arith}
 use Rattle.table.specs.Answer.{done, firstRefusal}
-use Rattle.table.proofs.Answers.{refusal-next, refusal-stop, refusal-end}
+use Rattle.table.proofs.Files.Answers.{refusal-next, refusal-stop, refusal-end}
 use Rattle.cellfile.specs.File.{cellsBlock}
 use Rattle.cellfile.proofs.Reading.BlockRead.{read-further}
 use Rattle.cellfile.proofs.file.blocks_answer.Statement.{statement}

@@ -6,7 +6,7 @@ use borrow.Author.Needs.{needs}
 use borrow.Author.Tests.{not-true, not-false}
 use denote.Ref.{now}
 use native.Mathlib.Omega.{arith}
-use Rattle.diagram.specs.Diagram.{wellFormed}
+use Rattle.diagram.specs.Networks.Diagram.{wellFormed}
 use Rattle.lent.specs.Lent.{lentDiagram}
 use Rattle.lent.proofs.Sizes.{roots-size}
 use Rattle.lent.proofs.Tested.{formed-not, formed-rest}

@@ -7,7 +7,7 @@ use mathlib.Core.Bool.{true}
 use Prim.Native.Nat.{_≤_, _-_}
 use native.Mathlib.Omega.{arith}
 use denote.Ref.{now}
-use Rattle.diagram.specs.Lists.{all, upTo}
+use Rattle.lists.specs.Lists.{all, upTo}
 use Rattle.cellfile.specs.inner.Cells.{fileCells, fileRoots}
 use Rattle.lent.proofs.Sizes.{roots-size}
 use Rattle.lent.proofs.Tested.{ownRoot, roots-bad, roots-more, roots-good}

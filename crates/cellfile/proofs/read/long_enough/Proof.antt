@@ -6,7 +6,7 @@ use denote.Ref.{now}
 use native.Mathlib.Omega.{arith}
 use lib.Dec.{leb}
 use lib.ListN.{length}
-use Rattle.table.proofs.Over.{plane-size}
+use Rattle.table.proofs.Planes.PlaneSize.{plane-size}
 use Rattle.fill.proofs.Buffers.Sizes.{work-size}
 use Rattle.lent.proofs.Sizes.{roots-size}
 use Rattle.cellfile.proofs.Reading.ReadAnswer.{short-values, short-care, short-work, by-roots}

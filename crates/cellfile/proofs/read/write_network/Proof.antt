@@ -4,8 +4,8 @@ use mathlib.Core.Path.{_≡_, ap, _∙_}
 use Prim.Native.Nat.{ℕ, _*_}
 use denote.Ref.{now}
 use borrow.Author.Needs.{needs}
+use Rattle.lists.specs.Written.{over}
 use Rattle.table.specs.declared.State.{State}
-use Rattle.table.specs.Calls.{over}
 use Rattle.lent.specs.Tabulate.{tabulateValues, tabulateCare}
 use Rattle.cellfile.specs.File.{fileCount, cellNumber}
 use Rattle.cellfile.proofs.Reading.Checked.{shape-of, passed}

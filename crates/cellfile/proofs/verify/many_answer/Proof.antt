@@ -6,7 +6,7 @@ use Prim.Native.Nat.{ℕ}
 use denote.Ref.{now}
 use native.Mathlib.Omega.{arith}
 use borrow.Author.Needs.{needs}
-use Rattle.diagram.specs.Diagram.{wellFormed}
+use Rattle.diagram.specs.Networks.Diagram.{wellFormed}
 use Rattle.table.specs.File.{fileInputs, fileOutputs}
 use Rattle.cellfile.specs.File.{fileDiagram}
 use Rattle.cellfile.proofs.Reading.Checked.{shape-of, many-formed, many-bad}

@@ -6,7 +6,7 @@ use Prim.Native.Nat.{_≤_}
 use native.Mathlib.Omega.{arith}
 use denote.Ref.{now}
 use lib.ListN.{length}
-use Rattle.diagram.proofs.Bools.{to-T}
+use Rattle.lists.proofs.Bools.{to-T}
 use Rattle.table.specs.Answer.{done}
 use Rattle.fill.specs.Work.{workSize}
 use Rattle.fill.proofs.Buffers.Sizes.{work-size}

@@ -6,7 +6,7 @@ use mathlib.Core.Logic.{⊎-elim}
 use Prim.Native.Nat.{_-_, _≤_}
 use native.Mathlib.Nat.{le-antisymm, add-zero}
 use native.Mathlib.Omega.{arith}
-use Rattle.diagram.specs.Lists.{digit}
+use Rattle.lists.specs.Bits.{digit}
 use Rattle.fill.specs.Counts.{differingPairs}
 use Rattle.fill.proofs.Counting.CountedCells.{pairs-more}
 use Rattle.fill.proofs.cells.differing_pairs.Statement.{statement}

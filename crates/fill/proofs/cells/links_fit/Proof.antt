@@ -4,7 +4,7 @@ use mathlib.Core.Path.{_≡_}
 use mathlib.Core.Bool.{true}
 use borrow.Author.Tests.{le-leb, lt-leb}
 use lib.Dec.{leb}
-use Rattle.diagram.specs.Bound.{mostVariables, mostOutputs}
+use Rattle.diagram.specs.Networks.Bound.{mostVariables, mostOutputs}
 use Rattle.fill.specs.Work.{workSize, linksAt}
 use Rattle.fill.specs.Counts.{linksFit}
 use Rattle.fill.proofs.Buffers.Sizes.{sizes}

@@ -7,9 +7,9 @@ use Prim.Native.Nat.{_-_, _≤_, _+_}
 use native.Mathlib.Nat.{zero-add}
 use native.Mathlib.Omega.{arith}
 use lib.ListN.{drop}
-use Rattle.diagram.specs.Bound.{mostVariables}
+use Rattle.lists.proofs.Numbers.Total.{sum-more, sum-all}
+use Rattle.diagram.specs.Networks.Bound.{mostVariables}
 use Rattle.fill.proofs.Buffers.Sizes.{sizes}
-use Rattle.fill.proofs.Counting.CountedCells.{sum-more, sum-all}
 use Rattle.fill.proofs.cells.total.Statement.{statement}
 use Rattle.fill.proofs.cells.total.Tie as tie
 

@@ -5,10 +5,10 @@ use mathlib.Core.List.{List}
 use Prim.Native.Nat.{ℕ, suc, _+_, _*_, _≤_}
 use native.Mathlib.Omega.{arith}
 use lib.ListN.{replicate}
+use Rattle.lists.specs.Written.{splice}
 use Rattle.reorder.specs.Sizes.{width}
 use Rattle.reorder.proofs.Shifts.{part-size, width-room, width-met}
 use Rattle.matching.specs.Links.{regionSize}
-use Rattle.matching.specs.Splice.{splice}
 use Rattle.fill.proofs.descent.level_below.Statement.{statement}
 use Rattle.fill.proofs.descent.level_below.Tie as tie
 

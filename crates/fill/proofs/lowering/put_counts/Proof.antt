@@ -5,9 +5,9 @@ use Prim.Native.Nat.{ℕ, _+_, _*_, _-_, _≤_, zero-le}
 use native.Mathlib.Nat.{le-antisymm}
 use lib.ListN.{length, take}
 use lib.Seq.{take-all}
-use Rattle.diagram.specs.Bound.{mostVariables}
-use Rattle.matching.specs.Splice.{splice}
-use Rattle.matching.proofs.Buffers.Splice.{splice-none, splice-more, length-splice-take}
+use Rattle.lists.specs.Written.{splice}
+use Rattle.lists.proofs.Written.Splice.{splice-none, splice-more, length-splice-take}
+use Rattle.diagram.specs.Networks.Bound.{mostVariables}
 use Rattle.fill.proofs.Lowered.TrialSizes.{trialSizes}
 use Rattle.fill.proofs.lowering.put_counts.Statement.{statement}
 use Rattle.fill.proofs.lowering.put_counts.Tie as tie

@@ -7,7 +7,7 @@ use mathlib.Core.List.{List, []}
 use Prim.Native.Nat.{ℕ, suc, _+_, _-_, _≤_, _<_}
 use lib.Dec.{T}
 use lib.ListN.{length, take}
-use Rattle.diagram.specs.Bound.{mostVariables}
+use Rattle.diagram.specs.Networks.Bound.{mostVariables}
 use Rattle.matching.specs.Links.{regionSize}
 use Rattle.fill.specs.Work.{workSize, linksAt}
 use Rattle.fill.specs.Calls.{perLevel, countsSize, triedCounts}

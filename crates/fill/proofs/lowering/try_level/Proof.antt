@@ -4,8 +4,8 @@ use denote.Ref.{now}
 use mathlib.Core.Path.{refl, ap, _∙_}
 use Prim.Native.Nat.{_*_}
 use borrow.Author.Tests.{eq-eqb, ne-eqb}
-use Rattle.diagram.specs.Bound.{mostVariables}
-use Rattle.matching.specs.Splice.{splice}
+use Rattle.lists.specs.Written.{splice}
+use Rattle.diagram.specs.Networks.Bound.{mostVariables}
 use Rattle.fill.proofs.lowering.try_level.Statement.{statement}
 use Rattle.fill.proofs.lowering.try_level.Tie as tie
 

@@ -6,7 +6,7 @@ use Prim.Native.Nat.{ℕ, _-_, _≤_, _<_, zero-le}
 use native.Mathlib.Nat.{le-antisymm}
 use native.Mathlib.Omega.{arith}
 use lib.ListN.{length}
-use Rattle.diagram.specs.Bound.{mostOutputs}
+use Rattle.diagram.specs.Networks.Bound.{mostOutputs}
 use Rattle.fill.proofs.Linking.LinkedOutputs.{Linked, linked-none, output-room, output-linked}
 use Rattle.fill.proofs.outputs.link_outputs.Statement.{statement}
 use Rattle.fill.proofs.outputs.link_outputs.Tie as tie

@@ -5,9 +5,9 @@ use mathlib.Core.Path.{_≡_, refl, sym, ap, _∙_}
 use Prim.Native.Nat.{ℕ, _+_, _-_, _≤_}
 use native.Mathlib.Nat.{le-antisymm}
 use lib.ListN.{length, replicate, length-set}
-use Rattle.matching.specs.Splice.{splice}
-use Rattle.matching.proofs.Buffers.Splice.{splice-none}
-use Rattle.fill.proofs.Buffers.Zeros.{zeros-more}
+use Rattle.lists.specs.Written.{splice}
+use Rattle.lists.proofs.Written.Splice.{splice-none}
+use Rattle.lists.proofs.Written.Zeros.{zeros-more}
 use Rattle.fill.proofs.outputs.zero.Statement.{statement}
 use Rattle.fill.proofs.outputs.zero.Tie as tie
 

@@ -7,8 +7,8 @@ use mathlib.Core.Bool.{true}
 use Prim.Native.Nat.{_≤_, _-_}
 use borrow.Author.Tests.{not-true, not-false}
 use denote.Ref.{now}
-use Rattle.diagram.specs.Lists.{all, upTo}
-use Rattle.diagram.proofs.Numbers.{all-upTo-more}
+use Rattle.lists.specs.Lists.{all, upTo}
+use Rattle.lists.proofs.Numbers.Compared.{all-upTo-more}
 use Rattle.lent.proofs.Tested.{goodNode, nodes-bad, nodes-good}
 use Rattle.lent.proofs.cells.nodes_good.Statement.{statement}
 use Rattle.lent.proofs.cells.nodes_good.Tie as tie

@@ -6,7 +6,7 @@ use mathlib.Core.Path.{_≡_, refl, sym}
 use mathlib.Core.Bool.{true}
 use Prim.Native.Nat.{_≤_, _-_}
 use denote.Ref.{now}
-use Rattle.diagram.specs.Lists.{all, upTo}
+use Rattle.lists.specs.Lists.{all, upTo}
 use Rattle.lent.proofs.Tested.{ownRoot, roots-bad, roots-more, roots-good}
 use Rattle.lent.proofs.cells.roots_good.Statement.{statement}
 use Rattle.lent.proofs.cells.roots_good.Tie as tie

@@ -7,9 +7,10 @@ use mathlib.Core.Path.{_≡_, refl, _∙_}
 use mathlib.Core.Bool.{true}
 use denote.Ref.{now}
 use lib.Dec.{T}
-use Rattle.diagram.specs.Lists.{flip}
-use Rattle.diagram.specs.Diagram.{refers, gives}
-use Rattle.lent.specs.inner.Cells.{lentCells, levelBit}
+use Rattle.lists.specs.Bits.{flip}
+use Rattle.diagram.specs.Networks.Diagram.{refers, gives}
+use Rattle.lent.specs.inner.Cells.{levelBit}
+use Rattle.lent.specs.Lent.{lentCells}
 use Rattle.lent.proofs.Following.{left, step-own, step-falls, step-gives, last-gives}
 use Rattle.lent.proofs.follow.follow.Statement.{statement}
 use Rattle.lent.proofs.follow.follow.Tie as tie

@@ -6,8 +6,8 @@ use Prim.Native.Nat.{ℕ, _≤_, _-_}
 use native.Mathlib.Omega.{arith}
 use denote.Ref.{now}
 use lib.ListN.{take}
-use Rattle.diagram.specs.Order.{rowUnder}
-use Rattle.block.specs.Bits.{packed}
+use Rattle.lists.specs.Bits.{packed}
+use Rattle.diagram.specs.Orders.Order.{rowUnder}
 use Rattle.lent.proofs.Gathered.{bit-added, sum-fits}
 use Rattle.lent.proofs.follow.level_bits.Statement.{statement}
 use Rattle.lent.proofs.follow.level_bits.Tie as tie

@@ -5,7 +5,7 @@ use mathlib.Core.Path.{_∙_}
 use Prim.Native.Nat.{_+_, _-_, _/_, _≤_}
 use native.Mathlib.Omega.{arith}
 use denote.Ref.{now}
-use Rattle.diagram.proofs.Bits.{digit-le}
+use Rattle.lists.proofs.Bits.Digits.{digit-le}
 use Rattle.lent.specs.Lent.{lentNode}
 use Rattle.lent.specs.inner.Cells.{levelBit}
 use Rattle.lent.proofs.LevelBits.{level-masked}

@@ -7,9 +7,9 @@ use mathlib.Core.Logic.{⊎-elim}
 use Prim.Native.Nat.{ℕ, _≤_, _-_}
 use native.Mathlib.Omega.{arith}
 use denote.Ref.{now}
-use Rattle.diagram.specs.Lists.{digit}
-use Rattle.lent.specs.inner.Cells.{lentCells, levelBit}
-use Rattle.block.specs.Bits.{packed}
+use Rattle.lists.specs.Bits.{digit, packed}
+use Rattle.lent.specs.inner.Cells.{levelBit}
+use Rattle.lent.specs.Lent.{lentCells}
 use Rattle.lent.proofs.Gathered.{zero-omitted, bit-added, sum-fits}
 use Rattle.lent.proofs.Outputs.{root-own, givenAt, found-at, outputs-given}
 use Rattle.lent.proofs.follow.outputs.Statement.{statement}

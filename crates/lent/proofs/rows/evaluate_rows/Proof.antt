@@ -8,8 +8,8 @@ use native.Mathlib.Omega.{arith}
 use borrow.Author.Tests.{not-true, not-false}
 use denote.Ref.{now}
 use lib.Dec.{ltb}
-use Rattle.diagram.specs.Lists.{all}
-use Rattle.diagram.proofs.Bits.{one-shifted}
+use Rattle.lists.specs.Lists.{all}
+use Rattle.lists.proofs.Bits.Digits.{one-shifted}
 use Rattle.table.specs.State.{stageOf, isNetwork}
 use Rattle.lent.specs.Evaluate.{goodCells}
 use Rattle.lent.proofs.Answered.{inputs-few, followable, rooted}

@@ -7,11 +7,11 @@ use native.Mathlib.Omega.{arith}
 use denote.Ref.{now}
 use lib.ListN.{length, getD}
 use lib.Pow.{pow-mono}
-use Rattle.diagram.specs.Bound.{mostOutputs}
-use Rattle.block.specs.Bits.{packed}
-use Rattle.block.proofs.Packed.{packed-lt}
-use Rattle.table.specs.Calls.{over}
-use Rattle.table.proofs.Over.{over-next, length-over}
+use Rattle.lists.specs.Bits.{packed}
+use Rattle.lists.specs.Written.{over}
+use Rattle.lists.proofs.Bits.Packed.{packed-lt}
+use Rattle.lists.proofs.Written.Over.{over-next, length-over}
+use Rattle.diagram.specs.Networks.Bound.{mostOutputs}
 use Rattle.lent.specs.inner.Cells.{outputAt}
 use Rattle.lent.proofs.ManyRows.{answers-all}
 use Rattle.lent.proofs.rows.write_answers.Statement.{statement}

@@ -4,7 +4,7 @@ use borrow.Author.Needs.{needs}
 use native.Mathlib.Omega.{arith}
 use Prim.Native.Nat.{_*_, _-_}
 use lib.Pow.{pow-pos}
-use Rattle.table.proofs.Over.{plane-size}
+use Rattle.table.proofs.Planes.PlaneSize.{plane-size}
 use Rattle.lent.proofs.Tabulating.{byte-shifted, ones-past, ones-whole, ones-last}
 use Rattle.lent.proofs.tabulate.ones_byte.Statement.{statement}
 use Rattle.lent.proofs.tabulate.ones_byte.Tie as tie

@@ -7,7 +7,7 @@ use native.Mathlib.Omega.{arith}
 use borrow.Author.Tests.{not-true, not-false}
 use denote.Ref.{now}
 use Rattle.table.specs.State.{stageOf, isNetwork}
-use Rattle.table.proofs.Over.{plane-size}
+use Rattle.table.proofs.Planes.PlaneSize.{plane-size}
 use Rattle.lent.specs.Evaluate.{goodCells}
 use Rattle.lent.proofs.Answered.{followable, rooted}
 use Rattle.lent.proofs.Tabulating.{table-short-roots, table-short-values, table-short-care}

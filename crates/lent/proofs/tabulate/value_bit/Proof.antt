@@ -8,11 +8,11 @@ use native.Mathlib.Omega.{arith}
 use denote.Ref.{now}
 use lib.Dec.{T}
 use lib.Pow.{pow-pos}
-use Rattle.diagram.specs.Diagram.{refers}
-use Rattle.diagram.proofs.Bits.{one-shifted}
-use Rattle.block.proofs.StreamBits.{row-masked}
-use Rattle.table.proofs.Answers.{shifted-out}
-use Rattle.lent.specs.inner.Cells.{lentCells}
+use Rattle.lists.proofs.Bits.Masks.{row-masked}
+use Rattle.lists.proofs.Bits.Digits.{one-shifted}
+use Rattle.diagram.specs.Networks.Diagram.{refers}
+use Rattle.table.proofs.Files.Answers.{shifted-out}
+use Rattle.lent.specs.Lent.{lentCells}
 use Rattle.lent.proofs.Following.{packed-gives}
 use Rattle.lent.proofs.Outputs.{root-own}
 use Rattle.lent.proofs.Tabulating.{bit-past, output-of, bit-followed}

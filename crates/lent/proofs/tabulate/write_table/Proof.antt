@@ -4,10 +4,12 @@ use mathlib.Core.Path.{_≡_, refl, ap, _∙_}
 use Prim.Native.Nat.{ℕ, _*_, _-_, _%_, _^_, _≤_}
 use native.Mathlib.Omega.{arith}
 use denote.Ref.{now}
+use Rattle.lists.specs.Written.{over}
+use Rattle.lists.proofs.Written.Over.{over-next}
 use Rattle.table.specs.Stream.{planeByte}
-use Rattle.table.specs.Calls.{planeSize, over}
-use Rattle.table.proofs.Answers.{stream-small, shifted-out}
-use Rattle.table.proofs.Over.{over-next, plane-size, plane-length, plane-whole}
+use Rattle.table.specs.Calls.{planeSize}
+use Rattle.table.proofs.Files.Answers.{stream-small, shifted-out}
+use Rattle.table.proofs.Planes.PlaneSize.{plane-size, plane-length, plane-whole}
 use Rattle.lent.specs.Tabulate.{lentTable}
 use Rattle.lent.specs.inner.Tabulate.{onesByte}
 use Rattle.lent.proofs.Tabulating.{ones-care}

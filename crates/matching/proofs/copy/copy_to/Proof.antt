@@ -6,8 +6,8 @@ use Prim.Native.Nat.{ℕ, _+_, _-_, _≤_, zero-le}
 use native.Mathlib.Nat.{le-antisymm}
 use lib.ListN.{length, take}
 use lib.Seq.{take-length}
-use Rattle.matching.specs.Splice.{splice}
-use Rattle.matching.proofs.Buffers.Splice.{splice-none, splice-more, length-splice-take}
+use Rattle.lists.specs.Written.{splice}
+use Rattle.lists.proofs.Written.Splice.{splice-none, splice-more, length-splice-take}
 use Rattle.matching.proofs.copy.copy_to.Statement.{statement}
 use Rattle.matching.proofs.copy.copy_to.Tie as tie
 

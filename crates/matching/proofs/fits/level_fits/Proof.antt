@@ -4,7 +4,7 @@ use mathlib.Core.Path.{_≡_, _∙_}
 use mathlib.Core.Bool.{true}
 use borrow.Author.Tests.{lt-ltb, le-ltb}
 use lib.Dec.{ltb}
-use Rattle.diagram.specs.Bound.{mostVariables}
+use Rattle.diagram.specs.Networks.Bound.{mostVariables}
 use Rattle.matching.specs.Fits.{regionsFit, countFits, levelFits}
 use Rattle.matching.proofs.Buffers.Fitting.{links-counted, refused, passed}
 use Rattle.matching.proofs.fits.level_fits.Statement.{statement}

@@ -5,7 +5,7 @@ use Prim.Native.Nat.{ℕ, suc, _+_, _*_}
 use native.Mathlib.Omega.{arith}
 use borrow.Author.Tests.{le-leb, lt-leb}
 use lib.Dec.{leb}
-use Rattle.diagram.specs.Bound.{mostVariables}
+use Rattle.diagram.specs.Networks.Bound.{mostVariables}
 use Rattle.reorder.specs.Sizes.{width}
 use Rattle.reorder.proofs.Shifts.{part-size, width-room, width-met}
 use Rattle.matching.specs.Fits.{partsFit}

@@ -1,7 +1,7 @@
 -- `matching::halves::half_byte` meets its contract, by cases on b. Assumes nothing.
 use borrow.Author.Needs.{needs}
 use native.Mathlib.Omega.{arith}
-use Rattle.diagram.proofs.Bits.{one-shifted}
+use Rattle.lists.proofs.Bits.Digits.{one-shifted}
 use Rattle.matching.proofs.Parts.PartHalves.{shift-small, bits-high, bits-low}
 use Rattle.matching.proofs.halves.half_byte.Statement.{statement}
 use Rattle.matching.proofs.halves.half_byte.Tie as tie

@@ -9,7 +9,7 @@ use native.Mathlib.Nat.{le-antisymm}
 use native.Mathlib.Omega.{arith}
 use lib.Bits.{bitAnd, bitXor}
 use lib.ListN.{length}
-use Rattle.diagram.specs.Fill.{entry}
+use Rattle.diagram.specs.Filling.Fill.{entry}
 use Rattle.matching.specs.Links.{linkNumber}
 use Rattle.matching.specs.inner.Found.{foundLink}
 use Rattle.matching.specs.Parts.{agreePart, chunks}

@@ -7,7 +7,7 @@ use native.Mathlib.Omega.{arith}
 use lib.Arith.{lt-of-le-ne}
 use lib.Bits.{bitAnd}
 use lib.ListN.{length}
-use Rattle.diagram.proofs.Bits.{digit-part-le, one-shifted}
+use Rattle.lists.proofs.Bits.Digits.{digit-part-le, one-shifted}
 use Rattle.reorder.specs.Sizes.{width}
 use Rattle.matching.specs.Parts.{halfByte}
 use Rattle.matching.proofs.Wordwise.HalfWords.{half-masked, half-in-word, half-is-word}

@@ -11,7 +11,7 @@ use native.Mathlib.Omega.{arith}
 use lib.Bits.{bitAnd, bitXor}
 use lib.Dec.{eqb}
 use lib.ListN.{take, drop}
-use Rattle.diagram.specs.Lists.{all, upTo}
+use Rattle.lists.specs.Lists.{all, upTo}
 use Rattle.matching.specs.Parts.{agreePart}
 use Rattle.matching.proofs.Linking.First.{plain-first, inverted-first, found-first, found-pass, found-last}
 use Rattle.matching.proofs.Wordwise.WholeWords.{byteTest, gathered, plain-words, inverted-words}

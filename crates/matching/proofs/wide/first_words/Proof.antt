@@ -8,7 +8,7 @@ use Prim.Native.Nat.{ℕ, _+_, _*_, _-_, _^_, _≤_, _<_, zero-le}
 use native.Mathlib.Nat.{le-antisymm}
 use native.Mathlib.Omega.{arith}
 use lib.ListN.{length, take, drop}
-use Rattle.diagram.proofs.Bits.{digit-le}
+use Rattle.lists.proofs.Bits.Digits.{digit-le}
 use Rattle.matching.specs.inner.Found.{foundLink}
 use Rattle.matching.specs.Parts.{chunks}
 use Rattle.matching.proofs.Linking.Along.{partOn, Passed, passed-none, passed-more, passed-found, passed-end}

@@ -7,9 +7,9 @@ use Prim.Native.Nat.{_+_, _-_, _≤_, zero-le}
 use native.Mathlib.Omega.{arith}
 use lib.ListN.{length, set, take, drop}
 use lib.Seq.{take-all}
-use Rattle.matching.specs.Splice.{splice}
+use Rattle.lists.specs.Written.{splice}
+use Rattle.lists.proofs.Written.Splice.{splice-none, splice-more, length-splice-take}
 use Rattle.matching.specs.inner.Words.{bytesOf}
-use Rattle.matching.proofs.Buffers.Splice.{splice-none, splice-more, length-splice-take}
 use Rattle.matching.proofs.Wordwise.Bytes.{length-bytes, rest-none, rest-byte, rest-more}
 use Rattle.matching.proofs.words.put_word.Statement.{statement}
 use Rattle.matching.proofs.words.put_word.Tie as tie

@@ -2,7 +2,7 @@
 -- Assumes nothing.
 use borrow.Author.Needs.{needs}
 use denote.Ref.{now}
-use Rattle.network.proofs.BuildCases.{short-case, refused-case, small-case, ready, built-case}
+use Rattle.network.proofs.Building.BuildCases.{short-case, refused-case, small-case, ready, built-case}
 use Rattle.network.proofs.build.build.Statement.{statement}
 use Rattle.network.proofs.build.build.Tie as tie
 use Rattle.network.proofs.build.build.Reads as reads

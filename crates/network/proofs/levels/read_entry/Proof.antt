@@ -8,8 +8,8 @@ use lib.Dec.{eqb}
 use denote.Ref.{now}
 use Rattle.fill.proofs.Buffers.Sizes.{work-size}
 use Rattle.network.specs.Levels.{made, entryMade}
-use Rattle.network.proofs.Entries.{entry-next, entry-alike, entry-unlike}
-use Rattle.network.proofs.LinkRefs.{opposite-small}
+use Rattle.network.proofs.LinksRead.Entries.{entry-next, entry-alike, entry-unlike}
+use Rattle.network.proofs.LinksRead.LinkRefs.{opposite-small}
 use Rattle.network.proofs.levels.read_entry.Statement.{statement}
 use Rattle.network.proofs.levels.read_entry.Tie as tie
 use Rattle.network.proofs.levels.read_entry.Reads as reads

@@ -5,10 +5,10 @@ use Prim.Native.Nat.{_≤_, _-_, _+_, _*_}
 use native.Mathlib.Omega.{arith}
 use denote.Ref.{now}
 use lib.ListN.{length, getD}
-use Rattle.block.specs.Bits.{sumBelow}
+use Rattle.lists.specs.Sums.{sumBelow}
 use Rattle.network.specs.Levels.{made, Made, levelAt, levelsMade}
-use Rattle.network.proofs.Offsets.{sum-above, at-above, at-rises}
-use Rattle.network.proofs.LevelTurns.{no-levels, turn-level, levels-work, levels-cells}
+use Rattle.network.proofs.LinksRead.Offsets.{sum-above, at-above, at-rises}
+use Rattle.network.proofs.LinksRead.LevelTurns.{no-levels, turn-level, levels-work, levels-cells}
 use Rattle.network.proofs.levels.read_levels.Statement.{statement}
 use Rattle.network.proofs.levels.read_levels.Tie as tie
 use Rattle.network.proofs.levels.read_levels.Reads as reads

@@ -4,10 +4,10 @@ use borrow.Author.Needs.{needs}
 use mathlib.Core.Path.{sym, ap, _∙_}
 use native.Mathlib.Omega.{arith}
 use denote.Ref.{now}
-use Rattle.diagram.specs.Diagram.{inverts, opposite}
+use Rattle.diagram.specs.Networks.Diagram.{inverts, opposite}
 use mathlib.Core.Bool.{true}
 use Rattle.fill.proofs.Buffers.Sizes.{work-size}
-use Rattle.network.proofs.LinkRefs.{opposite-small, ref-constant, ref-entry}
+use Rattle.network.proofs.LinksRead.LinkRefs.{opposite-small, ref-constant, ref-entry}
 use Rattle.network.proofs.links.link_ref.Statement.{statement}
 use Rattle.network.proofs.links.link_ref.Tie as tie
 use Rattle.network.proofs.links.link_ref.Reads as reads

@@ -3,7 +3,7 @@
 use borrow.Author.Needs.{needs}
 use mathlib.Core.Path.{sym}
 use borrow.Author.Tests.{not-true, not-false}
-use Rattle.network.proofs.LinkRefs.{opposite-plain, opposite-odd, opposite-even}
+use Rattle.network.proofs.LinksRead.LinkRefs.{opposite-plain, opposite-odd, opposite-even}
 use Rattle.network.proofs.links.turned.Statement.{statement}
 use Rattle.network.proofs.links.turned.Tie as tie
 use Rattle.network.proofs.links.turned.Reads as reads

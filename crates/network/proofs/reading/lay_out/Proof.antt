@@ -6,12 +6,12 @@ use mathlib.Core.List.{List}
 use Prim.Native.Nat.{ℕ, _+_, _*_}
 use native.Mathlib.Omega.{arith}
 use denote.Ref.{now}
-use Rattle.table.specs.Calls.{over}
+use Rattle.lists.specs.Written.{over}
 use Rattle.fill.specs.Work.{clearedWork}
 use Rattle.fill.proofs.Buffers.Sizes.{work-size}
 use Rattle.lent.specs.Lent.{rootsSize}
 use Rattle.network.specs.Levels.{rootAt}
-use Rattle.network.proofs.Offsets.{links-at, first-at}
+use Rattle.network.proofs.LinksRead.Offsets.{links-at, first-at}
 use Rattle.network.proofs.reading.lay_out.Statement.{statement}
 use Rattle.network.proofs.reading.lay_out.Tie as tie
 use Rattle.network.proofs.reading.lay_out.Reads as reads

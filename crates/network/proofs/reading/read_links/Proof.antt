@@ -2,7 +2,7 @@
 -- Assumes nothing.
 use borrow.Author.Needs.{needs}
 use denote.Ref.{now}
-use Rattle.network.proofs.ReadCases.{short-case, refused-case, small-case, ready, read-case}
+use Rattle.network.proofs.LinksRead.ReadCases.{short-case, refused-case, small-case, ready, read-case}
 use Rattle.network.proofs.reading.read_links.Statement.{statement}
 use Rattle.network.proofs.reading.read_links.Tie as tie
 

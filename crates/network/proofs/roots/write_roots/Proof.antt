@@ -5,9 +5,9 @@ use Prim.Native.Nat.{_≤_, _-_}
 use native.Mathlib.Omega.{arith}
 use denote.Ref.{now}
 use lib.ListN.{length}
-use Rattle.diagram.specs.Bound.{mostOutputs}
-use Rattle.table.specs.Calls.{over}
-use Rattle.table.proofs.Over.{over-next, length-over}
+use Rattle.lists.specs.Written.{over}
+use Rattle.lists.proofs.Written.Over.{over-next, length-over}
+use Rattle.diagram.specs.Networks.Bound.{mostOutputs}
 use Rattle.lent.proofs.Sizes.{roots-size}
 use Rattle.network.specs.Levels.{rootAt}
 use Rattle.network.proofs.roots.write_roots.Statement.{statement}

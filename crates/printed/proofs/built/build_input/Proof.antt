@@ -4,7 +4,7 @@ use mathlib.Core.Path.{sym, _∙_}
 use borrow.Author.Needs.{needs}
 use borrow.Author.Tests.{not-true, not-false}
 use denote.Ref.{now}
-use Rattle.printed.proofs.BuiltCases.{unread, built}
+use Rattle.printed.proofs.Inputs.BuiltCases.{unread, built}
 use Rattle.printed.proofs.built.build_input.Statement.{statement}
 use Rattle.printed.proofs.built.build_input.Tie as tie
 

@@ -1,7 +1,7 @@
 -- `printed::input::load_input` meets its contract.
 -- Assumes nothing.
 use borrow.Author.Needs.{needs}
-use Rattle.printed.proofs.InputCases.{long-outcome, long-values, long-care, short-outcome, short-values, short-care}
+use Rattle.printed.proofs.Inputs.InputCases.{long-outcome, long-values, long-care, short-outcome, short-values, short-care}
 use Rattle.printed.proofs.input.load_input.Statement.{statement}
 use Rattle.printed.proofs.input.load_input.Tie as tie
 

@@ -1,7 +1,7 @@
 -- `printed::output::cared_bits` meets its contract.
 -- Assumes nothing.
 use borrow.Author.Needs.{needs}
-use Rattle.printed.proofs.OutputCases.{cared-value}
+use Rattle.printed.proofs.Texts.OutputCases.{cared-value}
 use Rattle.printed.proofs.output.cared_bits.Statement.{statement}
 use Rattle.printed.proofs.output.cared_bits.Tie as tie
 

@@ -3,7 +3,7 @@
 use borrow.Author.Needs.{needs}
 use denote.Ref.{now}
 use Rattle.text.proofs.Writing.{written-as}
-use Rattle.printed.proofs.OutputCases.{printed-of}
+use Rattle.printed.proofs.Texts.OutputCases.{printed-of}
 use Rattle.printed.proofs.output.print_input.Statement.{statement}
 use Rattle.printed.proofs.output.print_input.Tie as tie
 

@@ -4,7 +4,7 @@ use mathlib.Core.Path.{sym, _∙_}
 use borrow.Author.Needs.{needs}
 use borrow.Author.Tests.{not-true, not-false}
 use denote.Ref.{now}
-use Rattle.printed.proofs.OutputCases.{written-unbuilt, written-built}
+use Rattle.printed.proofs.Texts.OutputCases.{written-unbuilt, written-built}
 use Rattle.printed.proofs.output.print_outcome.Statement.{statement}
 use Rattle.printed.proofs.output.print_outcome.Tie as tie
 

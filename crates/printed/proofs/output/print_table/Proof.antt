@@ -6,7 +6,7 @@ use borrow.Author.Needs.{needs}
 use denote.Ref.{now}
 use Rattle.lent.proofs.Sizes.{roots-size}
 use Rattle.printed.proofs.Sizes.{plane-size, work-size}
-use Rattle.printed.proofs.FileOutput.{all-left}
+use Rattle.printed.proofs.Texts.FileOutput.{all-left}
 use Rattle.printed.proofs.output.print_table.Statement.{statement}
 use Rattle.printed.proofs.output.print_table.Tie as tie
 

@@ -1,7 +1,7 @@
 -- `printed::refusal::refusal` meets its contract.
 -- Assumes nothing.
 use borrow.Author.Needs.{needs}
-use Rattle.printed.proofs.OutputCases.{written-refusal}
+use Rattle.printed.proofs.Texts.OutputCases.{written-refusal}
 use Rattle.printed.proofs.refusal.refusal.Statement.{statement}
 use Rattle.printed.proofs.refusal.refusal.Tie as tie
 

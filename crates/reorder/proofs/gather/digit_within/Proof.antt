@@ -4,7 +4,8 @@ use borrow.Author.Needs.{needs}
 use denote.Ref.{now}
 use mathlib.Core.Path.{refl}
 use native.Mathlib.Omega.{arith}
-use Rattle.block.proofs.StreamBits.{mask-below, bit-shifted}
+use Rattle.lists.proofs.Bits.Masks.{mask-below}
+use Rattle.block.proofs.StreamBits.{bit-shifted}
 use Rattle.reorder.proofs.gather.digit_within.Statement.{statement}
 use Rattle.reorder.proofs.gather.digit_within.Tie as tie
 

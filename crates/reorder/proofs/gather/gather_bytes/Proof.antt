@@ -8,9 +8,9 @@ use mathlib.Core.List.{List}
 use Prim.Native.Nat.{ℕ, _+_, _*_, _≤_, _<_, _-_}
 use native.Mathlib.Omega.{arith}
 use lib.ListN.{getD}
+use Rattle.lists.proofs.Bits.Packed.{bit-more}
 use Rattle.block.specs.Bits.{streamBit}
 use Rattle.reorder.specs.Gather.{gatheredByte}
-use Rattle.block.proofs.Packed.{bit-more}
 use Rattle.reorder.proofs.gather.gather_bytes.Statement.{statement}
 use Rattle.reorder.proofs.gather.gather_bytes.Tie as tie
 

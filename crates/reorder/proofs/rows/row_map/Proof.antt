@@ -7,7 +7,7 @@ use mathlib.Core.List.{List}
 use Prim.Native.Nat.{ℕ, _*_, _-_, _%_, _^_, _≤_}
 use native.Mathlib.Omega.{arith}
 use lib.ListN.{length, replicate}
-use Rattle.diagram.proofs.Bits.{one-shifted}
+use Rattle.lists.proofs.Bits.Digits.{one-shifted}
 use Rattle.reorder.specs.Sizes.{mostRows}
 use Rattle.reorder.specs.inner.Rows.{rowShares}
 use Rattle.reorder.proofs.Shifts.{most-rows}

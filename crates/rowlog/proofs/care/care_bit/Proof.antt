@@ -5,8 +5,8 @@ use mathlib.Core.Path.{sym}
 use native.Mathlib.Omega.{arith}
 use denote.Ref.{now}
 use lib.Pow.{pow-pos}
-use Rattle.diagram.proofs.Bits.{one-shifted}
-use Rattle.block.proofs.StreamBits.{row-masked}
+use Rattle.lists.proofs.Bits.Digits.{one-shifted}
+use Rattle.lists.proofs.Bits.Masks.{row-masked}
 use Rattle.rowlog.proofs.Caring.{bit-past, bit-within}
 use Rattle.rowlog.proofs.care.care_bit.Statement.{statement}
 use Rattle.rowlog.proofs.care.care_bit.Tie as tie

@@ -7,9 +7,9 @@ use mathlib.Core.Logic.{⊎-elim}
 use Prim.Native.Nat.{ℕ, _+_, _*_, _≤_, _-_}
 use native.Mathlib.Omega.{arith}
 use denote.Ref.{now}
-use Rattle.block.specs.Bits.{packed}
-use Rattle.block.proofs.Packed.{bit-set, bit-clear}
-use Rattle.table.proofs.Over.{plane-size}
+use Rattle.lists.specs.Bits.{packed}
+use Rattle.lists.proofs.Bits.Packed.{bit-set, bit-clear}
+use Rattle.table.proofs.Planes.PlaneSize.{plane-size}
 use Rattle.rowlog.specs.inner.Care.{careBit}
 use Rattle.rowlog.proofs.Caring.{byte-of-bits}
 use Rattle.rowlog.proofs.care.care_byte.Statement.{statement}

@@ -4,8 +4,10 @@ use mathlib.Core.Path.{_≡_, refl}
 use Prim.Native.Nat.{_-_, _≤_}
 use native.Mathlib.Omega.{arith}
 use denote.Ref.{now}
-use Rattle.table.specs.Calls.{planeSize, over}
-use Rattle.table.proofs.Over.{over-next, plane-size, plane-length, plane-whole}
+use Rattle.lists.specs.Written.{over}
+use Rattle.lists.proofs.Written.Over.{over-next}
+use Rattle.table.specs.Calls.{planeSize}
+use Rattle.table.proofs.Planes.PlaneSize.{plane-size, plane-length, plane-whole}
 use Rattle.rowlog.specs.inner.Care.{careByte}
 use Rattle.rowlog.proofs.care.write_care.Statement.{statement}
 use Rattle.rowlog.proofs.care.write_care.Tie as tie

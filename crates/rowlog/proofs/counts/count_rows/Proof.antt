@@ -8,8 +8,8 @@ use native.Mathlib.Omega.{arith}
 use denote.Ref.{now}
 use lib.ListN.{length, getD, set, take}
 use lib.Seq.{take-length}
-use Rattle.table.specs.Calls.{over}
-use Rattle.table.proofs.Over.{length-over}
+use Rattle.lists.specs.Written.{over}
+use Rattle.lists.proofs.Written.Over.{length-over}
 use Rattle.rowlog.specs.Log.{seen}
 use Rattle.rowlog.proofs.Counting.{seen-room, row-within, counted-at, counted-length, counted-next, counted-none}
 use Rattle.rowlog.proofs.counts.count_rows.Statement.{statement}

@@ -6,8 +6,8 @@ use Prim.Native.Nat.{_*_, _-_, _≤_}
 use native.Mathlib.Omega.{arith}
 use denote.Ref.{now}
 use lib.ListN.{getD}
-use Rattle.block.specs.Bits.{sumBelow}
-use Rattle.block.proofs.Check.{sum-more}
+use Rattle.lists.specs.Sums.{sumBelow}
+use Rattle.lists.proofs.Numbers.Sums.{sum-more}
 use Rattle.rowlog.specs.Log.{mostRecords}
 use Rattle.rowlog.proofs.counts.sum_of.Statement.{statement}
 use Rattle.rowlog.proofs.counts.sum_of.Tie as tie

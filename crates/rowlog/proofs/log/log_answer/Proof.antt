@@ -11,16 +11,16 @@ use denote.Ref.{now}
 use lib.Dec.{ltb, leb}
 use lib.ListN.{length, getD}
 use lib.Pow.{pow-mono}
-use Rattle.diagram.specs.Bound.{mostVariables}
-use Rattle.diagram.specs.Lists.{all}
-use Rattle.diagram.proofs.Bools.{to-T}
-use Rattle.diagram.proofs.Bits.{one-shifted}
-use Rattle.block.specs.Bits.{sumBelow}
+use Rattle.lists.specs.Sums.{sumBelow}
+use Rattle.lists.specs.Lists.{all}
+use Rattle.lists.proofs.Bools.{to-T}
+use Rattle.lists.proofs.Bits.Digits.{one-shifted}
+use Rattle.diagram.specs.Networks.Bound.{mostVariables}
 use Rattle.table.specs.declared.State.{State}
 use Rattle.table.specs.State.{stageOf, isNothing, orderOf}
 use Rattle.table.specs.Calls.{planeSize}
 use Rattle.table.proofs.Held.{held-heading, heading-inputs}
-use Rattle.table.proofs.Over.{plane-size}
+use Rattle.table.proofs.Planes.PlaneSize.{plane-size}
 use Rattle.rowlog.specs.Log.{mostRecords, recordsOf}
 use Rattle.rowlog.proofs.Answered.{log-short, log-no-table, log-few-counts, log-no-row, log-too-many, log-good}
 use Rattle.rowlog.proofs.log.log_answer.Statement.{statement}

@@ -8,13 +8,14 @@ use native.Mathlib.Omega.{arith}
 use borrow.Author.Tests.{not-true, not-false}
 use denote.Ref.{now}
 use lib.ListN.{length, getD}
-use Rattle.diagram.specs.Bound.{mostVariables}
-use Rattle.diagram.proofs.Bools.{to-T}
+use Rattle.lists.specs.Written.{over}
+use Rattle.lists.proofs.Bools.{to-T}
+use Rattle.diagram.specs.Networks.Bound.{mostVariables}
 use Rattle.table.specs.declared.State.{State}
 use Rattle.table.specs.Answer.{done}
 use Rattle.table.specs.State.{orderOf}
-use Rattle.table.specs.Calls.{planeSize, over}
-use Rattle.table.proofs.Answers.{shifted-out}
+use Rattle.table.specs.Calls.{planeSize}
+use Rattle.table.proofs.Files.Answers.{shifted-out}
 use Rattle.table.proofs.Held.{held-heading, heading-inputs, few-outputs}
 use Rattle.rowlog.specs.inner.Care.{careByte}
 use Rattle.rowlog.proofs.Counting.{all-more-below, seen-most, row-within}

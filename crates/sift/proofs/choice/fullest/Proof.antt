@@ -6,10 +6,10 @@ use mathlib.Core.Bool.{Bool, false, not}
 use Prim.Native.Nat.{ℕ, _+_, _-_, _≤_}
 use native.Mathlib.Omega.{arith}
 use lib.ListN.{getD, take, drop}
-use Rattle.diagram.specs.Lists.{keep, upTo}
-use Rattle.diagram.proofs.Order.{index-below}
+use Rattle.lists.specs.Lists.{keep, upTo}
+use Rattle.diagram.proofs.Orders.Order.{index-below}
 use Rattle.sift.specs.inner.Choice.{nodesAt, overtaken}
-use Rattle.sift.proofs.LeadingVariable.{leading, lead-none, lead-more, lead-all}
+use Rattle.sift.proofs.Passing.LeadingVariable.{leading, lead-none, lead-more, lead-all}
 use Rattle.sift.proofs.choice.fullest.Statement.{statement}
 use Rattle.sift.proofs.choice.fullest.Tie as tie
 use Rattle.sift.proofs.choice.fullest.Reads as reads

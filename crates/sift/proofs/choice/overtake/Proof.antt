@@ -1,7 +1,7 @@
 -- `sift::choice::overtake` meets its contract. A variable takes the lead, by the two tests.
 -- Assumes nothing.
 use mathlib.Core.Path.{sym}
-use Rattle.sift.proofs.LeadingVariable.{overtaken-marked, overtaken-fewer, overtaken-more}
+use Rattle.sift.proofs.Passing.LeadingVariable.{overtaken-marked, overtaken-fewer, overtaken-more}
 use Rattle.sift.proofs.choice.overtake.Statement.{statement}
 use Rattle.sift.proofs.choice.overtake.Tie as tie
 use Rattle.sift.proofs.choice.overtake.Reads as reads

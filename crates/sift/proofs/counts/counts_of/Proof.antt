@@ -7,10 +7,10 @@ use Prim.Native.Nat.{ℕ, _-_, _≤_}
 use native.Mathlib.Omega.{arith}
 use denote.Ref.{now}
 use lib.ListN.{take, drop, set, replicate}
-use Rattle.diagram.specs.Bound.{mostVariables}
+use Rattle.lists.proofs.Written.Paste.{paste-more, paste-all}
+use Rattle.diagram.specs.Networks.Bound.{mostVariables}
 use Rattle.fill.specs.Calls.{countsOf}
-use Rattle.sift.proofs.MovedEntries.{over-more, over-all}
-use Rattle.sift.proofs.LentCounts.{level-room, level-length, level-at}
+use Rattle.sift.proofs.Trying.LentCounts.{level-room, level-length, level-at}
 use Rattle.sift.proofs.counts.counts_of.Statement.{statement}
 use Rattle.sift.proofs.counts.counts_of.Tie as tie
 
@@ -59,7 +59,7 @@ loop-again c =
       omega arith,
       ap₂ (λ (ys : List ℕ) (x : ℕ). set ys (l .l) x) (l .inv .1)
           (sym (level-at (now (a .counts)) (a .p) (s .pre .0) (s .pre .1) (l .l) below))
-          ∙ over-more cs (replicate mostVariables 0) (l .l)
+          ∙ paste-more cs (replicate mostVariables 0) (l .l)
           (omega (arith, below, level-length (now (a .counts)) (a .p) (s .pre .0) (s .pre .1))) below,
     )
 
@@ -72,7 +72,7 @@ returns c =
     let all : l .l ≡ mostVariables = omega (arith, l .inv .0, c .loop-test .left) in
     l .inv .1
     ∙ ap (λ (k : ℕ). take k cs ++ drop k (replicate mostVariables 0)) all
-    ∙ over-all cs (replicate mostVariables 0) mostVariables
+    ∙ paste-all cs (replicate mostVariables 0) mostVariables
     (omega (arith, level-length (now (a .counts)) (a .p) (s .pre .0) (s .pre .1)))
     ∙ append-nil cs
 

@@ -7,10 +7,10 @@ use native.Mathlib.Omega.{arith}
 use denote.Ref.{now}
 use lib.ListN.{length, take}
 use lib.Seq.{take-all}
-use Rattle.diagram.specs.Bound.{mostVariables}
-use Rattle.matching.specs.Splice.{splice}
-use Rattle.matching.proofs.Buffers.Splice.{splice-none, splice-more, length-splice-take}
-use Rattle.sift.proofs.LentCounts.{level-room}
+use Rattle.lists.specs.Written.{splice}
+use Rattle.lists.proofs.Written.Splice.{splice-none, splice-more, length-splice-take}
+use Rattle.diagram.specs.Networks.Bound.{mostVariables}
+use Rattle.sift.proofs.Trying.LentCounts.{level-room}
 use Rattle.sift.proofs.counts.put_counts.Statement.{statement}
 use Rattle.sift.proofs.counts.put_counts.Tie as tie
 

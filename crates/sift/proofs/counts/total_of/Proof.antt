@@ -9,10 +9,10 @@ use native.Mathlib.Nat.{zero-add}
 use native.Mathlib.Omega.{arith}
 use denote.Ref.{now}
 use lib.ListN.{getD, drop}
-use Rattle.diagram.specs.Bound.{mostVariables}
-use Rattle.fill.proofs.Counting.CountedCells.{sum-more, sum-all}
+use Rattle.lists.proofs.Numbers.Total.{sum-more, sum-all}
+use Rattle.diagram.specs.Networks.Bound.{mostVariables}
 use Rattle.fill.specs.Calls.{countsOf}
-use Rattle.sift.proofs.LentCounts.{level-room, level-length, level-at}
+use Rattle.sift.proofs.Trying.LentCounts.{level-room, level-length, level-at}
 use Rattle.sift.proofs.counts.total_of.Statement.{statement}
 use Rattle.sift.proofs.counts.total_of.Tie as tie
 

@@ -9,8 +9,8 @@ use lib.IntN.{ℤ, _-ℤ_}
 use mir.Syntax.{w32}
 use mir.Val.{SFits, toZ}
 use mir.ValLaws.{toZ-ofZ, toZ-pos}
-use Rattle.diagram.specs.Bound.{mostNodes}
-use Rattle.diagram.proofs.Differences.{difference-mag}
+use Rattle.lists.proofs.Numbers.Differences.{difference-mag}
+use Rattle.diagram.specs.Networks.Bound.{mostNodes}
 use Rattle.sift.proofs.moves.gain.Statement.{statement}
 use Rattle.sift.proofs.moves.gain.Tie as tie
 

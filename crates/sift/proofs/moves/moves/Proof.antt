@@ -7,11 +7,11 @@ use native.Mathlib.Nat.{mul-le-mul}
 use native.Mathlib.Omega.{arith}
 use borrow.Author.Tests.{not-true, not-false}
 use denote.Ref.{now}
-use Rattle.diagram.proofs.Bools.{to-T}
+use Rattle.lists.proofs.Bools.{to-T}
 use Rattle.table.specs.State.{stageOf, isNothing}
 use Rattle.table.proofs.Held.{few-inputs}
 use Rattle.fill.specs.Calls.{enough}
-use Rattle.sift.proofs.MovesOutcome.{moves-short, moves-no-table, moves-few, moves-done}
+use Rattle.sift.proofs.Reporting.MovesOutcome.{moves-short, moves-no-table, moves-few, moves-done}
 use Rattle.sift.proofs.moves.moves.Statement.{statement}
 use Rattle.sift.proofs.moves.moves.Tie as tie
 

@@ -8,16 +8,16 @@ use native.Mathlib.Omega.{arith}
 use borrow.Rule.Slice.PartMut.{mid-len, same-len-mid}
 use denote.Ref.{now}
 use lib.ListN.{length, take, drop}
-use Rattle.diagram.specs.Moves.{gainAt}
+use Rattle.lists.specs.Written.{over}
+use Rattle.diagram.specs.Orders.Moves.{gainAt}
 use Rattle.table.specs.Answer.{value}
-use Rattle.table.specs.Calls.{over}
 use Rattle.table.specs.State.{orderOf}
 use Rattle.table.proofs.Held.{held-heading}
 use Rattle.fill.specs.declared.Levels.{Levels}
 use Rattle.fill.specs.Work.{zeroWork}
 use Rattle.fill.specs.Calls.{heldTable}
-use Rattle.sift.proofs.CountSucceeds.{counted-work, counted-levels, counted-cost, enough-again, zero-still}
-use Rattle.sift.proofs.Report.{row-room, no-row, next-row, all-rows}
+use Rattle.sift.proofs.Trying.CountSucceeds.{counted-work, counted-levels, counted-cost, enough-again, zero-still}
+use Rattle.sift.proofs.Reporting.Report.{row-room, no-row, next-row, all-rows}
 use Rattle.sift.proofs.moves.report.Statement.{statement}
 use Rattle.sift.proofs.moves.report.Tie as tie
 

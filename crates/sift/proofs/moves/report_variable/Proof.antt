@@ -5,14 +5,14 @@ use mathlib.Core.Path.{sym, subst}
 use Prim.Native.Nat.{ℕ, _≤_}
 use native.Mathlib.Omega.{arith}
 use denote.Ref.{now}
-use Rattle.diagram.specs.Bound.{mostNodes}
-use Rattle.diagram.proofs.Bound.{few-cost}
+use Rattle.diagram.specs.Networks.Bound.{mostNodes}
+use Rattle.diagram.proofs.Networks.Bound.{few-cost}
 use Rattle.table.specs.State.{orderOf}
 use Rattle.table.proofs.Held.{heading-inputs, heading-few}
 use Rattle.fill.specs.Calls.{heldTable}
 use Rattle.fill.proofs.Calls.TriedCounts.{counts-size}
-use Rattle.sift.proofs.MovedCounts.{moved-total}
-use Rattle.sift.proofs.Report.{counted-row}
+use Rattle.sift.proofs.Trying.MovedCounts.{moved-total}
+use Rattle.sift.proofs.Reporting.Report.{counted-row}
 use Rattle.sift.proofs.moves.report_variable.Statement.{statement}
 use Rattle.sift.proofs.moves.report_variable.Tie as tie
 

@@ -11,9 +11,9 @@ use lib.ListN.{length, length-set}
 use mir.Syntax.{w32}
 use mir.Val.{toZ, ofZ}
 use mir.ValLaws.{toZ-ofZ}
-use Rattle.diagram.specs.Bound.{mostNodes}
-use Rattle.table.specs.Calls.{over}
-use Rattle.table.proofs.Over.{over-next}
+use Rattle.lists.specs.Written.{over}
+use Rattle.lists.proofs.Written.Over.{over-next}
+use Rattle.diagram.specs.Networks.Bound.{mostNodes}
 use Rattle.sift.specs.inner.Counts.{countsGain}
 use Rattle.sift.proofs.moves.write_gains.Statement.{statement}
 use Rattle.sift.proofs.moves.write_gains.Tie as tie

@@ -2,7 +2,7 @@
 -- Assumes nothing.
 use borrow.Author.Needs.{needs}
 use mathlib.Core.Path.{sym, _∙_}
-use Rattle.sift.proofs.MovedEntries.{moved-above, moved-here, moved-below}
+use Rattle.sift.proofs.Trying.MovedEntries.{moved-above, moved-here, moved-below}
 use Rattle.sift.proofs.order.moved_entry.Statement.{statement}
 use Rattle.sift.proofs.order.moved_entry.Tie as tie
 use Rattle.sift.proofs.order.moved_entry.Reads as reads

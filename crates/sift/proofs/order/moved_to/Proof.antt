@@ -7,8 +7,8 @@ use mathlib.Core.Path.{_≡_}
 use mathlib.Core.List.{_++_}
 use native.Mathlib.Omega.{arith}
 use lib.ListN.{take, drop}
-use Rattle.diagram.specs.Order.{moved}
-use Rattle.sift.proofs.MovedEntries.{moved-more, moved-whole}
+use Rattle.diagram.specs.Orders.Order.{moved}
+use Rattle.sift.proofs.Trying.MovedEntries.{moved-more, moved-whole}
 use Rattle.sift.proofs.order.moved_to.Statement.{statement}
 use Rattle.sift.proofs.order.moved_to.Tie as tie
 use Rattle.sift.proofs.order.moved_to.Reads as reads

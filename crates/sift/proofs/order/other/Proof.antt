@@ -2,7 +2,7 @@
 -- Assumes nothing.
 use borrow.Author.Needs.{needs}
 use mathlib.Core.Path.{sym}
-use Rattle.sift.proofs.MovedEntries.{other-before, other-behind}
+use Rattle.sift.proofs.Trying.MovedEntries.{other-before, other-behind}
 use Rattle.sift.proofs.order.other.Statement.{statement}
 use Rattle.sift.proofs.order.other.Tie as tie
 use Rattle.sift.proofs.order.other.Reads as reads

@@ -5,8 +5,8 @@ use mathlib.Core.Path.{sym, _∙_}
 use native.Mathlib.Omega.{arith}
 use borrow.Author.Tests.{not-true, not-false}
 use denote.Ref.{now}
-use Rattle.diagram.proofs.Bools.{to-T}
-use Rattle.sift.proofs.PassOutcome.{pass-short, pass-no-table, pass-held}
+use Rattle.lists.proofs.Bools.{to-T}
+use Rattle.sift.proofs.Passing.PassOutcome.{pass-short, pass-no-table, pass-held}
 use Rattle.sift.proofs.passes.pass.Statement.{statement}
 use Rattle.sift.proofs.passes.pass.Tie as tie
 use Rattle.sift.proofs.passes.pass.Reads as reads

@@ -12,9 +12,9 @@ use Rattle.table.specs.State.{goodHeading, orderOf}
 use Rattle.table.proofs.Held.{few-inputs, held-heading}
 use Rattle.fill.specs.declared.Levels.{Levels}
 use Rattle.fill.specs.Work.{zeroWork}
-use Rattle.sift.proofs.CountSucceeds.{counted-work, counted-levels, enough-again, zero-still}
-use Rattle.sift.proofs.PassUnderWay.{Running, running-start, running-heading, running-counts}
-use Rattle.sift.proofs.PassUnderWay.{running-next, running-less, running-stop}
+use Rattle.sift.proofs.Trying.CountSucceeds.{counted-work, counted-levels, enough-again, zero-still}
+use Rattle.sift.proofs.Passing.PassUnderWay.{Running, running-start, running-heading, running-counts}
+use Rattle.sift.proofs.Passing.PassUnderWay.{running-next, running-less, running-stop}
 use Rattle.sift.proofs.passes.run.Statement.{statement}
 use Rattle.sift.proofs.passes.run.Tie as tie
 

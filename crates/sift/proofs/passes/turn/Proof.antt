@@ -6,9 +6,9 @@ use Prim.Native.Nat.{_≤_, _<_}
 use native.Mathlib.Omega.{arith}
 use denote.Ref.{now}
 use lib.ListN.{take}
-use Rattle.diagram.specs.Bound.{mostVariables}
+use Rattle.diagram.specs.Networks.Bound.{mostVariables}
 use Rattle.table.proofs.Held.{heading-inputs, heading-order}
-use Rattle.sift.proofs.OneTurn.{turn-below, current-heading, current-below, current-known, turn-level, turn-tried, turned}
+use Rattle.sift.proofs.Passing.OneTurn.{turn-below, current-heading, current-below, current-known, turn-level, turn-tried, turned}
 use Rattle.sift.proofs.passes.turn.Statement.{statement}
 use Rattle.sift.proofs.passes.turn.Tie as tie
 

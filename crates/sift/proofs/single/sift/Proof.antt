@@ -7,15 +7,15 @@ use Prim.Native.Nat.{_<_}
 use borrow.Author.Tests.{not-true, not-false}
 use denote.Ref.{now}
 use lib.Dec.{T}
-use Rattle.diagram.proofs.Bools.{of-T, to-T}
+use Rattle.lists.proofs.Bools.{of-T, to-T}
 use Rattle.table.specs.State.{orderOf, stageOf, isNothing}
 use Rattle.table.proofs.Held.{held-heading, few-inputs, ordered}
 use Rattle.fill.specs.declared.Levels.{Levels}
 use Rattle.fill.specs.Calls.{heldTable, enough}
-use Rattle.sift.proofs.BestLevel.{best-below}
-use Rattle.sift.proofs.CountSucceeds.{counted-work, counted-levels, enough-again, zero-still}
-use Rattle.sift.proofs.SiftedCounts.{sifted-best}
-use Rattle.sift.proofs.SiftOutcome.{sift-short, sift-no-table, sift-no-variable, sift-done}
+use Rattle.sift.proofs.Trying.BestLevel.{best-below}
+use Rattle.sift.proofs.Trying.CountSucceeds.{counted-work, counted-levels, enough-again, zero-still}
+use Rattle.sift.proofs.Trying.SiftedCounts.{sifted-best}
+use Rattle.sift.proofs.Sifting.SiftOutcome.{sift-short, sift-no-table, sift-no-variable, sift-done}
 use Rattle.sift.proofs.single.sift.Statement.{statement}
 use Rattle.sift.proofs.single.sift.Tie as tie
 

@@ -7,13 +7,13 @@ use mathlib.Core.List.{sum}
 use Prim.Native.Nat.{ℕ, _+_, _-_, _≤_, _<_}
 use native.Mathlib.Omega.{arith}
 use denote.Ref.{now}
-use Rattle.diagram.specs.Bound.{mostVariables, mostNodes}
+use Rattle.diagram.specs.Networks.Bound.{mostVariables, mostNodes}
 use Rattle.table.specs.State.{orderOf}
 use Rattle.table.proofs.Held.{heading-inputs, heading-order}
 use Rattle.fill.specs.Calls.{heldTable, countsOf}
 use Rattle.sift.specs.inner.Trials.{costAt, bestWith}
-use Rattle.sift.proofs.MovedCounts.{moved-total}
-use Rattle.sift.proofs.BestLevel.{afterTrials, trials-counted, trials-more, best-all, present-level}
+use Rattle.sift.proofs.Trying.MovedCounts.{moved-total}
+use Rattle.sift.proofs.Trying.BestLevel.{afterTrials, trials-counted, trials-more, best-all, present-level}
 use Rattle.sift.proofs.trials.best_level.Statement.{statement}
 use Rattle.sift.proofs.trials.best_level.Tie as tie
 

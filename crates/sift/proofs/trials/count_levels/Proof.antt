@@ -4,11 +4,11 @@ use borrow.Author.Needs.{needs}
 use Prim.Native.Nat.{_<_}
 use native.Mathlib.Omega.{arith}
 use denote.Ref.{now}
-use Rattle.diagram.specs.Bound.{mostVariables}
-use Rattle.diagram.proofs.Order.{index-below}
+use Rattle.diagram.specs.Networks.Bound.{mostVariables}
+use Rattle.diagram.proofs.Orders.Order.{index-below}
 use Rattle.table.specs.State.{orderOf}
 use Rattle.table.proofs.Held.{heading-inputs, heading-order}
-use Rattle.sift.proofs.MovedCounts.{counts-moved, work-zeroed}
+use Rattle.sift.proofs.Trying.MovedCounts.{counts-moved, work-zeroed}
 use Rattle.sift.proofs.trials.count_levels.Statement.{statement}
 use Rattle.sift.proofs.trials.count_levels.Tie as tie
 

@@ -1,7 +1,7 @@
 -- `sift::trials::is_taken` meets its contract. By the two tests.
 -- Assumes nothing.
 use mathlib.Core.Path.{sym}
-use Rattle.sift.proofs.BestLevel.{taken-first, taken-tie, taken-else}
+use Rattle.sift.proofs.Trying.BestLevel.{taken-first, taken-tie, taken-else}
 use Rattle.sift.proofs.trials.is_taken.Statement.{statement}
 use Rattle.sift.proofs.trials.is_taken.Tie as tie
 use Rattle.sift.proofs.trials.is_taken.Reads as reads

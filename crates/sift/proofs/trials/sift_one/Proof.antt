@@ -7,8 +7,8 @@ use Rattle.table.specs.State.{orderOf}
 use Rattle.table.proofs.Held.{heading-inputs}
 use Rattle.fill.specs.Calls.{heldTable}
 use Rattle.fill.proofs.Calls.TriedCounts.{counts-size}
-use Rattle.sift.proofs.BestLevel.{best-below}
-use Rattle.sift.proofs.SiftedCounts.{sifted-made}
+use Rattle.sift.proofs.Trying.BestLevel.{best-below}
+use Rattle.sift.proofs.Trying.SiftedCounts.{sifted-made}
 use Rattle.sift.proofs.trials.sift_one.Statement.{statement}
 use Rattle.sift.proofs.trials.sift_one.Tie as tie
 

@@ -2,7 +2,7 @@
 -- Assumes nothing.
 use borrow.Author.Needs.{needs}
 use mathlib.Core.Path.{sym, _∙_}
-use Rattle.sift.proofs.BestLevel.{with-taken, with-left}
+use Rattle.sift.proofs.Trying.BestLevel.{with-taken, with-left}
 use Rattle.sift.proofs.trials.try_level.Statement.{statement}
 use Rattle.sift.proofs.trials.try_level.Tie as tie
 

@@ -3,7 +3,7 @@
 use mathlib.Core.Path.{refl}
 use native.Mathlib.Omega.{arith}
 use Rattle.fill.proofs.Buffers.Sizes.{work-size}
-use Rattle.network.proofs.Offsets.{links-at}
+use Rattle.network.proofs.LinksRead.Offsets.{links-at}
 use borrow.Author.Needs.{needs}
 use Rattle.swapping.proofs.exchange.exchanged_links.Statement.{statement}
 use Rattle.swapping.proofs.exchange.exchanged_links.Tie as tie

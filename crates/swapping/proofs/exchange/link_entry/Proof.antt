@@ -7,7 +7,7 @@ use Prim.Native.Nat.{ℕ, _+_}
 use native.Mathlib.Omega.{arith}
 use denote.Ref.{now}
 use lib.ListN.{length}
-use Rattle.diagram.specs.inner.Exchange.{Pair, entriesAfter, linkInto, halfPair}
+use Rattle.diagram.specs.Exchanging.Exchange.{Pair, entriesAfter, linkInto, halfPair}
 use Rattle.matching.specs.Links.{linkNumber}
 use Rattle.network.specs.Levels.{putStored}
 use Rattle.swapping.specs.inner.Exchange.{pairOf, pairsIn, lentAt}

@@ -2,7 +2,7 @@
 -- Assumes nothing.
 use mathlib.Core.Path.{ap, _∙_}
 use denote.Ref.{now}
-use Rattle.diagram.specs.inner.Exchange.{Pair, entriesAfter, linkInto}
+use Rattle.diagram.specs.Exchanging.Exchange.{Pair, entriesAfter, linkInto}
 use Rattle.matching.specs.Links.{linkNumber}
 use Rattle.swapping.specs.inner.Exchange.{pairsIn}
 use Rattle.swapping.proofs.LevelLinks.{shows-as}

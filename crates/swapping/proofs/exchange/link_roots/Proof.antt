@@ -6,8 +6,8 @@ use Prim.Native.Nat.{ℕ, _+_, _*_, _-_, _≤_}
 use native.Mathlib.Omega.{arith}
 use denote.Ref.{now}
 use lib.ListN.{length}
-use Rattle.diagram.specs.inner.Exchange.{both}
-use Rattle.network.proofs.Offsets.{links-at}
+use Rattle.diagram.specs.Exchanging.Exchange.{both}
+use Rattle.network.proofs.LinksRead.Offsets.{links-at}
 use Rattle.swapping.proofs.RootLinks.{Rooted, roots-none, roots-few, roots-more}
 use Rattle.swapping.proofs.exchange.link_roots.Statement.{statement}
 use Rattle.swapping.proofs.exchange.link_roots.Tie as tie

@@ -4,8 +4,8 @@ use borrow.Author.Needs.{needs}
 use native.Mathlib.Omega.{arith}
 use denote.Ref.{now}
 use mathlib.Core.Bool.{true}
-use Rattle.diagram.specs.Diagram.{inverts}
-use Rattle.network.proofs.LinkRefs.{opposite-small}
+use Rattle.diagram.specs.Networks.Diagram.{inverts}
+use Rattle.network.proofs.LinksRead.LinkRefs.{opposite-small}
 use Rattle.swapping.proofs.PairNumbers.{cofactor-constant, cofactor-other, cofactor-high, cofactor-low}
 use Rattle.swapping.proofs.pairs.cofactor.Statement.{statement}
 use Rattle.swapping.proofs.pairs.cofactor.Tie as tie

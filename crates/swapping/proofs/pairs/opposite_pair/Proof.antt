@@ -4,9 +4,9 @@ use mathlib.Core.Path.{ap₂, _∙_}
 use mathlib.Core.Bool.{true}
 use Prim.Native.Nat.{_/_, _%_}
 use native.Mathlib.Omega.{arith}
-use Rattle.diagram.specs.inner.Exchange.{pair}
+use Rattle.diagram.specs.Exchanging.Exchange.{pair}
 use Rattle.network.specs.Levels.{storedLimit}
-use Rattle.network.proofs.LinkRefs.{opposite-small}
+use Rattle.network.proofs.LinksRead.LinkRefs.{opposite-small}
 use borrow.Author.Needs.{needs}
 use Rattle.swapping.proofs.pairs.opposite_pair.Statement.{statement}
 use Rattle.swapping.proofs.pairs.opposite_pair.Tie as tie

@@ -2,7 +2,7 @@
 -- Assumes nothing.
 use mathlib.Core.Path.{ap, _∙_}
 use Prim.Native.Nat.{ℕ}
-use Rattle.diagram.specs.inner.Exchange.{sameClass}
+use Rattle.diagram.specs.Exchanging.Exchange.{sameClass}
 use Rattle.swapping.specs.inner.Exchange.{pairOf}
 use Rattle.swapping.proofs.SeenPairs.{alike-same, alike-opposite}
 use borrow.Author.Needs.{needs}

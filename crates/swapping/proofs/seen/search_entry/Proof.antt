@@ -6,8 +6,8 @@ use mathlib.Core.Bool.{false}
 use Prim.Native.Nat.{ℕ, _≤_, _-_}
 use native.Mathlib.Omega.{arith}
 use denote.Ref.{now}
-use Rattle.diagram.specs.Lists.{has}
-use Rattle.diagram.specs.inner.Exchange.{sameClass}
+use Rattle.lists.specs.Lists.{has}
+use Rattle.diagram.specs.Exchanging.Exchange.{sameClass}
 use Rattle.swapping.specs.inner.Exchange.{pairOf, pairsIn}
 use Rattle.swapping.proofs.SeenPairs.{found-at, found-none, none-more}
 use Rattle.swapping.proofs.seen.search_entry.Statement.{statement}

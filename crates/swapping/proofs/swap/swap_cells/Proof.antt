@@ -2,9 +2,9 @@
 -- Assumes nothing.
 use mathlib.Core.Path.{sym, ap, _∙_}
 use denote.Ref.{now}
-use Rattle.diagram.proofs.Bools.{to-T}
+use Rattle.lists.proofs.Bools.{to-T}
 use Rattle.table.specs.Answer.{done}
-use Rattle.network.proofs.BuildCases.{never}
+use Rattle.network.proofs.Building.BuildCases.{never}
 use Rattle.swapping.proofs.Cases.{kept-case, cleared-case}
 use Rattle.swapping.proofs.Kept.{swapped-left, fit-left}
 use borrow.Author.Needs.{needs}

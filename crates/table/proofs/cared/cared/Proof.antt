@@ -4,12 +4,12 @@ use mathlib.Core.Path.{sym, _∙_}
 use native.Mathlib.Omega.{arith}
 use borrow.Author.Tests.{not-true, not-false}
 use denote.Ref.{now}
-use Rattle.diagram.proofs.Bools.{to-T}
+use Rattle.lists.proofs.Bools.{to-T}
 use Rattle.table.proofs.Held.{few-inputs, few-bits}
-use Rattle.table.proofs.Over.{plane-size}
-use Rattle.table.proofs.CaredBits.{bits-fit, cared-short, cared-no-table, cared-done}
+use Rattle.table.proofs.Planes.CaredBits.{bits-fit, cared-short, cared-no-table, cared-done}
 use Rattle.table.proofs.cared.cared.Statement.{statement}
 use Rattle.table.proofs.cared.cared.Tie as tie
+use Rattle.table.proofs.Planes.PlaneSize.{plane-size}
 
 returns : tie.Need-returns
 returns c =

@@ -3,11 +3,12 @@
 use borrow.Author.Needs.{needs}
 use Prim.Native.Nat.{ℕ, _*_, _+_, _-_, _≤_, min}
 use mathlib.Core.Path.{_≡_, ap, ap₂, _∙_}
-use Rattle.diagram.specs.Lists.{digit}
-use Rattle.block.specs.Bits.{streamBit, sumBelow}
+use Rattle.lists.specs.Bits.{digit}
+use Rattle.lists.specs.Sums.{sumBelow}
+use Rattle.block.specs.Bits.{streamBit}
 use native.Mathlib.Omega.{arith}
 use denote.Ref.{now}
-use Rattle.block.proofs.Sums.{sum-none, sum-part, sum-whole}
+use Rattle.lists.proofs.Numbers.Sums.{sum-none, sum-part, sum-whole}
 use Rattle.table.proofs.cared.cared_bits.Statement.{statement}
 use Rattle.table.proofs.cared.cared_bits.Tie as tie
 

@@ -3,7 +3,7 @@ use borrow.Author.Needs.{needs}
 use Prim.Native.Nat.{_*_, _-_}
 use native.Mathlib.Omega.{arith}
 use denote.Ref.{now}
-use Rattle.table.proofs.CaredBits.{mask-some, count-whole, count-part}
+use Rattle.table.proofs.Planes.CaredBits.{mask-some, count-whole, count-part}
 use Rattle.table.proofs.cared.cared_in.Statement.{statement}
 use Rattle.table.proofs.cared.cared_in.Tie as tie
 

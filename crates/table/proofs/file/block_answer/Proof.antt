@@ -7,7 +7,7 @@ use borrow.Author.Tests.{not-true, not-false}
 use denote.Ref.{now}
 use Rattle.block.specs.Block.{goodCheck}
 use Rattle.table.specs.declared.Answer.the-variants.{BadKind}
-use Rattle.table.proofs.Reader.{no-kind, heading-read, check-wrong, kind-read}
+use Rattle.table.proofs.Files.Reader.{no-kind, heading-read, check-wrong, kind-read}
 use Rattle.table.proofs.file.block_answer.Statement.{statement}
 use Rattle.table.proofs.file.block_answer.Tie as tie
 

@@ -7,8 +7,8 @@ use borrow.Author.Tests.{not-true, not-false}
 use native.Mathlib.Omega.{arith}
 use Rattle.table.specs.Answer.{done}
 use Rattle.table.specs.File.{blockAnswer, blocksAnswer}
-use Rattle.table.proofs.Answers.{refusal-next, refusal-stop, refusal-end}
-use Rattle.table.proofs.Reader.{read-further}
+use Rattle.table.proofs.Files.Answers.{refusal-next, refusal-stop, refusal-end}
+use Rattle.table.proofs.Files.Reader.{read-further}
 use Rattle.table.proofs.file.blocks_answer.Statement.{statement}
 use Rattle.table.proofs.file.blocks_answer.Tie as tie
 

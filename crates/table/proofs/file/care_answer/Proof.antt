@@ -4,7 +4,7 @@ use mathlib.Core.Path.{_∙_, sym}
 use borrow.Author.Needs.{needs}
 use denote.Ref.{now}
 use native.Mathlib.Omega.{arith}
-use Rattle.table.proofs.Reader.{kind-care, care-early, first-care, stream-read}
+use Rattle.table.proofs.Files.Reader.{kind-care, care-early, first-care, stream-read}
 use Rattle.table.proofs.file.care_answer.Statement.{statement}
 use Rattle.table.proofs.file.care_answer.Tie as tie
 

@@ -9,7 +9,7 @@ use denote.Ref.{now}
 use Rattle.block.specs.Block.{unusedZero}
 use Rattle.table.specs.Answer.{done}
 use Rattle.table.specs.File.{fileInputs, shapeAnswer, fieldsAnswer}
-use Rattle.table.proofs.Heading.{rest-read}
+use Rattle.table.proofs.Files.Heading.{rest-read}
 use Rattle.table.proofs.file.fields_answer.Statement.{statement}
 use Rattle.table.proofs.file.fields_answer.Tie as tie
 

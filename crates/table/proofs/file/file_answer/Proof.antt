@@ -6,12 +6,12 @@ use borrow.Author.Needs.{needs}
 use borrow.Author.Tests.{not-true, not-false}
 use denote.Ref.{now}
 use native.Mathlib.Omega.{arith}
-use Rattle.diagram.proofs.Bools.{to-T}
+use Rattle.lists.proofs.Bools.{to-T}
 use Rattle.block.specs.Block.{wholeBlocks}
 use Rattle.table.specs.Answer.{done}
 use Rattle.table.specs.File.{headingAnswer, streamsAnswer, fileAnswer}
-use Rattle.table.proofs.Accepted.{AcceptedHeading, accepted-heading}
-use Rattle.table.proofs.Reader.{read-heading}
+use Rattle.table.proofs.Files.Accepted.{AcceptedHeading, accepted-heading}
+use Rattle.table.proofs.Files.Reader.{read-heading}
 use Rattle.table.proofs.file.file_answer.Statement.{statement}
 use Rattle.table.proofs.file.file_answer.Tie as tie
 

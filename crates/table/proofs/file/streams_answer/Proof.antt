@@ -6,7 +6,7 @@ use borrow.Author.Needs.{needs}
 use denote.Ref.{now}
 use native.Mathlib.Omega.{arith}
 use Rattle.table.specs.File.{streamBlocks}
-use Rattle.table.proofs.Answers.{stream-small, shifted-out, few-blocks, blocks-for-is, wrong-count, right-count}
+use Rattle.table.proofs.Files.Answers.{stream-small, shifted-out, few-blocks, blocks-for-is, wrong-count, right-count}
 use Rattle.table.proofs.file.streams_answer.Statement.{statement}
 use Rattle.table.proofs.file.streams_answer.Tie as tie
 

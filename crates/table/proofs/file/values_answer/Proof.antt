@@ -4,7 +4,7 @@ use mathlib.Core.Path.{_∙_, sym}
 use borrow.Author.Needs.{needs}
 use denote.Ref.{now}
 use native.Mathlib.Omega.{arith}
-use Rattle.table.proofs.Reader.{kind-first, kind-values, kind-care, wrong-kind, first-value, stream-read}
+use Rattle.table.proofs.Files.Reader.{kind-first, kind-values, kind-care, wrong-kind, first-value, stream-read}
 use Rattle.table.proofs.file.values_answer.Statement.{statement}
 use Rattle.table.proofs.file.values_answer.Tie as tie
 

@@ -7,18 +7,18 @@ use borrow.Author.Needs.{needs}
 use borrow.Author.Tests.{not-true, not-false}
 use denote.Ref.{now}
 use native.Mathlib.Omega.{arith}
-use Rattle.diagram.specs.Bound.{mostVariables, mostOutputs}
-use Rattle.diagram.proofs.Bools.{to-T}
+use Rattle.lists.proofs.Bools.{to-T}
+use Rattle.diagram.specs.Networks.Bound.{mostVariables, mostOutputs}
 use Rattle.table.specs.declared.Answer.the-variants.{ShortBuffer}
 use Rattle.table.specs.Answer.{done}
 use Rattle.table.specs.File.{streamBlocks}
-use Rattle.table.specs.inner.Sizes.{mostBlocks}
-use Rattle.table.proofs.Accepted.{Accepted, accepted}
-use Rattle.table.proofs.Answers.{stream-small, shifted-out, few-blocks, blocks-for-is}
-use Rattle.table.proofs.Over.{plane-size}
-use Rattle.table.proofs.LoadCall.{short-values, short-care, long-planes, refused, loads}
+use Rattle.table.specs.Sizes.{mostBlocks}
+use Rattle.table.proofs.Files.Accepted.{Accepted, accepted}
+use Rattle.table.proofs.Files.Answers.{stream-small, shifted-out, few-blocks, blocks-for-is}
+use Rattle.table.proofs.Files.LoadCall.{short-values, short-care, long-planes, refused, loads}
 use Rattle.table.proofs.load.load.Statement.{statement}
 use Rattle.table.proofs.load.load.Tie as tie
+use Rattle.table.proofs.Planes.PlaneSize.{plane-size}
 
 passed : (c : tie.Else3) → done (c .before .before .file-answer .result) ≡ true
 passed c = sym (c .before .is-done .ensures) ∙ not-false _ (c .if3 .left)

@@ -5,11 +5,13 @@ use Prim.Native.Nat.{ℕ, _-_, _≤_}
 use denote.Ref.{now}
 use native.Mathlib.Omega.{arith}
 use lib.ListN.{length}
+use Rattle.lists.specs.Written.{over}
+use Rattle.lists.proofs.Written.Over.{over-next, length-over}
 use Rattle.table.specs.File.{streamByte}
-use Rattle.table.specs.Calls.{planeSize, over}
-use Rattle.table.proofs.Over.{over-next, length-over, plane-size}
+use Rattle.table.specs.Calls.{planeSize}
 use Rattle.table.proofs.load.write_plane.Statement.{statement}
 use Rattle.table.proofs.load.write_plane.Tie as tie
+use Rattle.table.proofs.Planes.PlaneSize.{plane-size}
 
 abbrev Inv-loop : tie.InvT-loop
 Inv-loop file first blocks plane₀ i₀ plane i = (i ≤ planeSize) × (plane ≡ over (streamByte file first blocks) i plane₀)

@@ -3,7 +3,8 @@
 use borrow.Author.Needs.{needs}
 use Prim.Native.Nat.{_≤_, _-_}
 use mathlib.Core.Path.{_≡_, refl, sym, _∙_}
-use Rattle.table.proofs.Orders.{rest, fine, order-fine, fine-high, fine-again, fine-next, fine-none}
+use Rattle.lists.proofs.Written.Rest.{rest}
+use Rattle.table.proofs.Ordering.Orders.{fine, order-fine, fine-high, fine-again, fine-next, fine-none}
 use Rattle.table.proofs.order.is_order.Statement.{statement}
 use Rattle.table.proofs.order.is_order.Tie as tie
 

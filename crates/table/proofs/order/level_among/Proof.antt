@@ -5,9 +5,9 @@ use Prim.Native.Nat.{_+_, _≤_, _-_}
 use mathlib.Core.Path.{_≡_}
 use lib.Dec.{eqb}
 use lib.ListN.{take}
-use Rattle.diagram.specs.Lists.{index}
-use Rattle.table.proofs.Orders.{rest}
-use Rattle.table.proofs.VariableLevels.{level-here, level-later, level-none}
+use Rattle.lists.specs.Lists.{index}
+use Rattle.lists.proofs.Written.Rest.{rest}
+use Rattle.table.proofs.Ordering.VariableLevels.{level-here, level-later, level-none}
 use Rattle.table.proofs.order.level_among.Statement.{statement}
 use Rattle.table.proofs.order.level_among.Tie as tie
 use Rattle.table.proofs.order.level_among.Reads as reads

@@ -1,7 +1,7 @@
 -- `table::order::level_of` meets its contract. An order has no more entries than the most variables.
 -- Assumes nothing.
 use borrow.Author.Needs.{needs}
-use Rattle.table.proofs.VariableLevels.{level-past}
+use Rattle.table.proofs.Ordering.VariableLevels.{level-past}
 use Rattle.table.proofs.order.level_of.Statement.{statement}
 use Rattle.table.proofs.order.level_of.Tie as tie
 

@@ -8,9 +8,9 @@ use lib.Dec.{ltb}
 use mathlib.Core.Path.{_≡_, refl, ap, _∙_}
 use native.Mathlib.Omega.{arith}
 use denote.Ref.{now}
-use Rattle.diagram.specs.Bound.{mostVariables}
+use Rattle.lists.proofs.Written.Filled.{filled, filled-more, filled-all}
+use Rattle.diagram.specs.Networks.Bound.{mostVariables}
 use Rattle.block.specs.Block.{byte}
-use Rattle.table.proofs.Filled.{filled, filled-more, filled-all}
 use Rattle.table.proofs.order.read_order.Statement.{statement}
 use Rattle.table.proofs.order.read_order.Tie as tie
 

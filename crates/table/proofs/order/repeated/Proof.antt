@@ -6,8 +6,9 @@ use mathlib.Core.Path.{_≡_, sym, _∙_}
 use native.Mathlib.Numerals.{add-one}
 use lib.Dec.{eqb}
 use lib.ListN.{getD}
-use Rattle.diagram.specs.Lists.{has}
-use Rattle.table.proofs.Orders.{rest, has-now, has-later, has-none}
+use Rattle.lists.specs.Lists.{has}
+use Rattle.lists.proofs.Written.Rest.{rest}
+use Rattle.table.proofs.Ordering.Orders.{has-now, has-later, has-none}
 use Rattle.table.proofs.order.repeated.Statement.{statement}
 use Rattle.table.proofs.order.repeated.Tie as tie
 

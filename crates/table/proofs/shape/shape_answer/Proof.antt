@@ -8,10 +8,10 @@ use borrow.Author.Needs.{needs}
 use borrow.Author.Tests.{not-true, not-false}
 use denote.Ref.{now}
 use lib.Dec.{leb}
-use Rattle.diagram.specs.Bound.{mostVariables, mostOutputs}
-use Rattle.diagram.specs.Order.{isOrder}
+use Rattle.diagram.specs.Networks.Bound.{mostVariables, mostOutputs}
+use Rattle.diagram.specs.Orders.Order.{isOrder}
 use Rattle.table.specs.File.{fileInputs, fileOutputs, fileOrder, shapeAnswer}
-use Rattle.table.proofs.Heading.{many-inputs, few-inputs, no-outputs, many-outputs, some-outputs, order-read}
+use Rattle.table.proofs.Files.Heading.{many-inputs, few-inputs, no-outputs, many-outputs, some-outputs, order-read}
 use Rattle.table.proofs.shape.shape_answer.Statement.{statement}
 use Rattle.table.proofs.shape.shape_answer.Tie as tie
 

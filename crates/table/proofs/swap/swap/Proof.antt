@@ -3,9 +3,9 @@ use borrow.Author.Needs.{needs}
 use mathlib.Core.Path.{sym, _∙_}
 use native.Mathlib.Omega.{arith}
 use borrow.Author.Tests.{not-true, not-false}
-use Rattle.diagram.proofs.Bools.{to-T}
+use Rattle.lists.proofs.Bools.{to-T}
 use Rattle.table.proofs.Held.{few-inputs}
-use Rattle.table.proofs.Swapped.{swap-no-table, swap-no-level, swap-done}
+use Rattle.table.proofs.Ordering.Swapped.{swap-no-table, swap-no-level, swap-done}
 use Rattle.table.proofs.swap.swap.Statement.{statement}
 use Rattle.table.proofs.swap.swap.Tie as tie
 

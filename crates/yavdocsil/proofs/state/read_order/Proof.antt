@@ -8,8 +8,8 @@ use native.Mathlib.Omega.{arith}
 use denote.Ref.{now}
 use lib.ListN.{set, take, drop, replicate, length-drop}
 use lib.Seq.{getD-drop}
-use Rattle.diagram.specs.Bound.{mostVariables}
-use Rattle.sift.proofs.MovedEntries.{over-more}
+use Rattle.lists.proofs.Written.Paste.{paste-more}
+use Rattle.diagram.specs.Networks.Bound.{mostVariables}
 use Rattle.yavdocsil.specs.Words.{orderAt}
 use Rattle.yavdocsil.proofs.state.read_order.Statement.{statement}
 use Rattle.yavdocsil.proofs.state.read_order.Tie as tie
@@ -51,7 +51,7 @@ loop-again c =
     let words = now (c .before .before .before .args .words) in (
       search needs,
       ap₂ (λ (o : List ℕ) (x : ℕ). set o (l .p) x) (l .inv .1) (sym (getD-drop orderAt words (l .p) 0))
-          ∙ over-more (drop orderAt words) (replicate mostVariables 0) (l .p) (omega (arith, length-drop orderAt words)) (omega arith),
+          ∙ paste-more (drop orderAt words) (replicate mostVariables 0) (l .p) (omega (arith, length-drop orderAt words)) (omega arith),
     )
 
 returns : tie.Need-returns Inv-loop μ-loop

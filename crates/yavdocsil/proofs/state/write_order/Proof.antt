@@ -6,7 +6,7 @@ use native.Mathlib.Omega.{arith}
 use denote.Ref.{now}
 use lib.ListN.{length}
 use lib.Seq.{paste}
-use Rattle.diagram.specs.Bound.{mostVariables}
+use Rattle.diagram.specs.Networks.Bound.{mostVariables}
 use Rattle.yavdocsil.specs.Words.{orderAt}
 use Rattle.yavdocsil.proofs.state.write_order.Statement.{statement}
 use Rattle.yavdocsil.proofs.state.write_order.Tie as tie

@@ -1,0 +1,10 @@
+pub mod Pairs
+pub mod CaredRows
+pub mod PairLevel
+pub mod Cofactor
+pub mod PairTree
+pub mod PairBounds
+pub mod Crossed
+pub mod Crosswise
+pub mod OwnNodes
+pub mod Exchange

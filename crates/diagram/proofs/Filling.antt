@@ -1,0 +1,11 @@
+pub mod Merge
+pub mod Twice
+pub mod Evened
+pub mod Fill
+pub mod Kept
+pub mod Apart
+pub mod United
+pub mod Cared
+pub mod MaskedRows
+pub mod FreeRows
+pub mod Levels

@@ -1,0 +1,13 @@
+pub mod Same
+pub mod Reference
+pub mod Refers
+pub mod Classes
+pub mod Count
+pub mod Known
+pub mod Right
+pub mod Function
+pub mod Evaluate
+pub mod Least
+pub mod Enumerate
+pub mod Bound
+pub mod SameTable

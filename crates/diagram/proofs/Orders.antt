@@ -1,0 +1,10 @@
+pub mod Order
+pub mod Moved
+pub mod Fewest
+pub mod Sift
+pub mod Moves
+pub mod Pass
+pub mod Shuffle
+pub mod Lowered
+pub mod LoweredCounts
+pub mod LoweredOrder

@@ -1,0 +1,4 @@
+pub mod Diagram
+pub mod Network
+pub mod Trace
+pub mod Bound

@@ -1,3 +1,0 @@
-pub mod Trace
-pub mod Structure
-pub mod Exchange

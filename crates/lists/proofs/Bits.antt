@@ -1,0 +1,4 @@
+pub mod Digits
+pub mod Packed
+pub mod Masks
+pub mod Ones

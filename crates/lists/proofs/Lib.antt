@@ -1,0 +1,5 @@
+pub mod Bools
+pub mod Bits
+pub mod Numbers
+pub mod Lists
+pub mod Written

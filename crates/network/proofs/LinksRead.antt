@@ -1,0 +1,13 @@
+pub mod AnyLinks
+pub mod Entries
+pub mod LevelRead
+pub mod LevelTurns
+pub mod LevelsRead
+pub mod LinkRefs
+pub mod Offsets
+pub mod ReadCases
+pub mod RootTurns
+pub mod TraceRead
+pub mod TraceSized
+pub mod Stored
+pub mod WorkLinks

@@ -1,0 +1,5 @@
+pub mod InputCases
+pub mod LoadedInput
+pub mod BuiltCases
+pub mod BuiltFile
+pub mod BoardEnough

@@ -1,0 +1,2 @@
+pub mod SiftOutcome
+pub mod StaysPut

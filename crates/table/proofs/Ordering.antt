@@ -1,0 +1,4 @@
+pub mod Exchanged
+pub mod Orders
+pub mod VariableLevels
+pub mod Swapped

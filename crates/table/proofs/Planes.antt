@@ -1,0 +1,3 @@
+pub mod CaredBits
+pub mod PlaneBits
+pub mod PlaneSize
