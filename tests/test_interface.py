@@ -1,7 +1,8 @@
-"""A test of the header, the library's names, the examples in C and Python that README shows, ./run and a program.
+"""A test of the header, the library's names, the example in C, ./run and a program.
 
-`python3 tests/test_interface.py`, after ./build. The examples must print what
-README shows, the header must declare what the library exports and no more.
+`python3 tests/test_interface.py`, after ./build. The example in C must print
+what the one in Python does, the header must declare what the library exports
+and no more.
 """
 
 import os
@@ -57,18 +58,6 @@ def printed(*command, **others):
     return run.stdout
 
 
-def shown_in_readme(command):
-    """The indented lines below a command in README."""
-    lines = (ROOT / "README.md").read_text(encoding="utf-8").splitlines()
-    start = lines.index(f"    $ {command}") + 1
-    shown = []
-    for line in lines[start:]:
-        if not line.startswith("    ") or line.startswith("    $"):
-            break
-        shown.append(line[4:] + "\n")
-    return "".join(shown)
-
-
 class WithFolder(unittest.TestCase):
     def setUp(self):
         folder = tempfile.TemporaryDirectory()
@@ -85,21 +74,13 @@ class Examples(WithFolder):
     def setUp(self):
         super().setUp()
         self.program = self.folder / "sift"
-        self.shown = shown_in_readme(f"PYTHONPATH=python python3 examples/sift.py {TABLE}")
+        self.shown = printed(sys.executable, "examples/sift.py", TABLE, PYTHONPATH="python")
 
     def compile(self, *words):
         printed("cc", "-std=c99", *WARNINGS, "examples/sift.c", *words, "-o", self.program)
 
-    def test_readme_shows_a_network(self):
+    def test_a_network_is_shown(self):
         self.assertIn("\ncells 4\n", self.shown)
-
-    def test_python(self):
-        self.assertEqual(printed(sys.executable, "examples/sift.py", TABLE, PYTHONPATH="python"), self.shown)
-
-    def test_python_with_a_network_file(self):
-        command = ["examples/cells.py", TABLE, "target/and-or-crossed.cells"]
-        shown = shown_in_readme(" ".join(["PYTHONPATH=python", "python3", *command]))
-        self.assertEqual(printed(sys.executable, *command, PYTHONPATH="python"), shown)
 
     def test_c_with_the_static_library(self):
         self.compile(f"-I{HEADER.parent}", STATIC)

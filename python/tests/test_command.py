@@ -1,16 +1,10 @@
 """Tests of the command: formats there and back, pictures and exports, and what a person is told of bad input."""
 
-import itertools
-import os
 import random
-import shlex
-import subprocess
-import sys
-import textwrap
 import unittest
 import xml.etree.ElementTree
 
-from running import CROSSED, EXAMPLES, GUARD, ROOT, WithFolder, yav
+from running import CROSSED, EXAMPLES, GUARD, WithFolder, yav
 
 from yavdocsil import Table, __version__
 
@@ -124,27 +118,6 @@ class Itself(Processes):
         for shell in ("bash", "zsh", "fish"):
             self.assertIn("evaluate", self.written("completion", shell))
         self.misused("invalid choice: 'sh'", "completion", "sh")
-
-
-class Readme(Processes):
-    def test_it_shows_what_is_written(self):
-        lines = (ROOT / "README.md").read_text(encoding="utf-8").splitlines()
-        starts = [at for at, line in enumerate(lines) if line.startswith("    $ ./yav ")]
-        self.assertEqual(len(starts), 16)
-        for at in starts:
-            shown = itertools.takewhile(lambda line: line.startswith("    ") and not line.startswith("    $"), lines[at + 1 :])
-            run = yav(*shlex.split(lines[at])[2:])
-            self.assertEqual([line[4:] for line in shown], (run.stdout + run.stderr).splitlines())
-
-
-    def test_the_program_in_python_runs(self):
-        code = (ROOT / "README.md").read_text(encoding="utf-8").split("    import pathlib\n")[1].split("\n\nA board")[0]
-        self.written("convert", GUARD, self.folder / "guard.pla")
-        program = "import pathlib\n" + textwrap.dedent(code)
-        environment = {**os.environ, "PYTHONPATH": str(ROOT / "python")}
-        run = subprocess.run([sys.executable, "-c", program], cwd=self.folder, env=environment, capture_output=True, text=True)
-        self.assertEqual((run.returncode, run.stdout, run.stderr), (0, "7 cells in the order (4, 0, 1, 2, 3)\n1\n", ""))
-        self.assertTrue((self.folder / "guard.svg").read_text(encoding="utf-8").startswith("<svg "))
 
 
 class Telling(Processes):

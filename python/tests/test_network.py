@@ -585,7 +585,7 @@ class TheLibrary(unittest.TestCase):
 
 
 class Examples(unittest.TestCase):
-    """The examples in Python, run as README says."""
+    """The examples in Python; docs/LIBRARY.md shows what they print, which tests/pages holds."""
 
     def setUp(self):
         folder = tempfile.TemporaryDirectory()
@@ -597,24 +597,11 @@ class Examples(unittest.TestCase):
         run = subprocess.run([sys.executable, *map(str, words)], cwd=ROOT, env=environment, capture_output=True, text=True)
         return run.returncode, run.stdout, run.stderr
 
-    def shown(self, words):
-        """What README shows below a command, however that begins."""
-        lines = (ROOT / "README.md").read_text(encoding="utf-8").splitlines()
-        begin = next(at for at, line in enumerate(lines) if line.startswith("    $") and line.endswith(words)) + 1
-        shown = itertools.takewhile(lambda line: line.startswith("    ") and not line.startswith("    $"), lines[begin:])
-        return "".join(f"{line[4:]}\n" for line in shown)
-
-    def test_they_print_what_is_shown(self):
-        for words, lines in (
-            ("examples/sift.py examples/and-or-crossed.table", 17),
-            ("examples/cells.py examples/and-or-crossed.table target/and-or-crossed.cells", 1),
-        ):
-            shown = self.shown(words)
-            self.assertEqual(shown.count("\n"), lines)
-            script, table, *_ = words.split()
-            new = [self.folder / "new.cells"] if len(words.split()) > 2 else []
-            self.assertEqual(self.run_by(script, table, *new), (0, shown, ""))
-        self.assertEqual((self.folder / "new.cells").read_bytes(), (ROOT / "examples" / "and-or-crossed.cells").read_bytes())
+    def test_a_network_file(self):
+        new = self.folder / "new.cells"
+        status, _, told = self.run_by("examples/cells.py", "examples/and-or-crossed.table", new)
+        self.assertEqual((status, told), (0, ""))
+        self.assertEqual(new.read_bytes(), (ROOT / "examples" / "and-or-crossed.cells").read_bytes())
 
     def test_other_formats_and_no_inputs(self):
         path = self.folder / "one.pla"

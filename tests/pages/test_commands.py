@@ -202,7 +202,8 @@ class Checked(WithFolder):
     def test_what_is_not_named(self):
         for text, known in (("    ./build\n", True), ("    ./rebuild\n", False), ("```pla\n```\n", True), ("```c\n```\n", False)):
             self.assertEqual(unknown("page", list(shown.shown_on(text.splitlines()))) == [], known, text)
-        self.assertEqual(unknown("page", list(shown.shown_on(["    ./build    proves and builds all", "    ./other   not"]))), ["page:1: ./other"])
+        listed = ["    ./build    proves and builds all", "    ./other    is nowhere named"]
+        self.assertEqual(unknown("page", list(shown.shown_on(listed))), ["page:1: ./other"])
 
     def test_the_folder_is_apart(self):
         self.folder.run(shown.Command(1, "echo > examples/new; echo > new; echo > target/new", ""))
