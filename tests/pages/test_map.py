@@ -88,6 +88,23 @@ class Map(unittest.TestCase):
                 self.assertIn(f"`crates/{folder.name}/", self.text)
 
 
+class OtherPages(unittest.TestCase):
+    def test_paths(self):
+        """Paths of crates are there on every page but the landings, which name files as they were."""
+        for name, path in texts.pages().items():
+            named = re.findall(r"`(crates/[a-z][^`\s]*)`", path.read_text(encoding="utf-8"))
+            with self.subTest(page=name):
+                missing = [each for each in named if not (texts.ROOT / each).exists()]
+                self.assertFalse(missing if name != "docs/LANDINGS.md" else [])
+
+    def test_links(self):
+        """What a page links to is there."""
+        for name, path in texts.pages().items():
+            linked = re.findall(r"\]\(([^)#:\s]+)(?:#[^)]*)?\)", path.read_text(encoding="utf-8"))
+            with self.subTest(page=name):
+                self.assertFalse([each for each in linked if not (path.parent / each).exists()])
+
+
 class Checked(unittest.TestCase):
     """The test finds what it is to find."""
 
