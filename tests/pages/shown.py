@@ -3,12 +3,12 @@
 On a page a block is indented by four blanks, behind an empty line. It is one of
 these:
 
-- a session: commands, each behind `$ `, and below each what it writes;
+- a transcript: commands, each behind `$ `, and below each what it writes;
 - a program, which begins with an import; the block behind a line that ends in
   `prints:` is what it prints;
 - anything else, which a test has to know.
 
-In a manual page a session stands between `.nf` and `.fi`. A text of a format
+In a manual page a transcript stands between `.nf` and `.fi`. A text of a format
 stands between lines of three backticks, with the format's name behind the first.
 """
 
@@ -64,7 +64,7 @@ def shown_on(lines):
         if block is output:
             continue
         if block.lines[0].startswith(PROMPT):
-            found += session(block)
+            found += transcript(block)
         elif re.match(r"import |from \w+ import ", block.lines[0]):
             output = after if after is not None and after.above.endswith(PRINTS) else None
             found.append(Program(block.line, joined(block.lines), joined(output.lines) if output else ""))
@@ -97,7 +97,7 @@ def blocks_of(lines):
     return blocks, fences
 
 
-def session(block):
+def transcript(block):
     """The commands of a block, each with the lines below it."""
     starts = [at for at, line in enumerate(block.lines) if line.startswith(PROMPT)]
     for at, end in zip(starts, [*starts[1:], len(block.lines)]):

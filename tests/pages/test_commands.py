@@ -37,7 +37,7 @@ BY_HAND = {
     "target/builds BEFORE.so AFTER.so": ("bench/README.md", "no gate runs it"),
     "cc -O2 -DBUDDY bench/swaps.c -Iinclude target/lib/libyavdocsil.a -lbdd -lm -o target/swaps": ("bench/README.md", "no gate runs it"),
 }
-# Blocks that are neither sessions nor programs: how each begins, and what it is.
+# Blocks that are neither transcripts nor programs: how each begins, and what it is.
 TEXTS = {
     ("bench/README.md", "read_truth "): "a command of ABC, which bench/ttopt.py gives it",
     ("docs/LANDINGS.md", "  ABC: 8 left out"): "what tests/outside.py told at that landing",
