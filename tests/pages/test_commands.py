@@ -148,7 +148,8 @@ class Pages(unittest.TestCase):
         for name, page in pages().items():
             with self.subTest(page=name), tempfile.TemporaryDirectory() as folder:
                 wrong = differences(name, page, Folder(pathlib.Path(folder)))
-                self.assertFalse(wrong, "\n\n".join(wrong))
+                if wrong:
+                    self.fail("\n\n".join(wrong))
         self.assertEqual(held(), before)
 
     def test_everything_is_run_or_named(self):
