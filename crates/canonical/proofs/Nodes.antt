@@ -20,11 +20,11 @@ use Rattle.diagram.specs.Networks.Diagram.{Node, sameNode}
 use Rattle.diagram.specs.Canonical.Structure.{nodeReduced}
 use Rattle.diagram.proofs.Networks.Same.{node-equality}
 use Rattle.lent.specs.Lent.{lentNode}
-use Rattle.canonical.specs.inner.Reduced.{lentNodes, isNew, reducedNodes, slots, slotOf, Slotted}
+use Rattle.canonical.specs.inner.Reduced.{lentNodes, isNew, reducedNodes, slots, nodeSlot, Slotted}
 
 -- the same node has the same slot
-same-slot : (c e : Node) → sameNode c e ≡ true → slotOf c ≡ slotOf e
-same-slot c e s = ap slotOf (node-equality .sound c e (to-T s))
+same-slot : (c e : Node) → sameNode c e ≡ true → nodeSlot c ≡ nodeSlot e
+same-slot c e s = ap nodeSlot (node-equality .sound c e (to-T s))
 
 module _ (cells : List ℕ) where
   -- node i, of whose numbers l and h are the edges
@@ -70,8 +70,8 @@ module _ (cells : List ℕ) where
   -- slots
 
   pub slot-found : (i a b c : ℕ) → a ≡ getD cells (3 * i) 0 → b ≡ getD cells (3 * i + 1) 0 → c ≡ getD cells (3 * i + 2) 0
-      → (a + 31 * b + 1021 * c) % slots ≡ slotOf (lentNode cells i)
-  unfolding slotOf
+      → (a + 31 * b + 1021 * c) % slots ≡ nodeSlot (lentNode cells i)
+  unfolding nodeSlot
   slot-found i a b c level low high = rw (level, low, high)
 
   pub slotted-none : (marks : List ℕ) → length marks ≡ slots → Slotted cells 0 marks
@@ -80,13 +80,13 @@ module _ (cells : List ℕ) where
   pub slotted-more : (i : ℕ) (marks : List ℕ) → Slotted cells (suc i) marks → Slotted cells (i + 1) marks
   slotted-more i marks S = rw (add-one i) S
 
-  module _ (i slot : ℕ) (at-slot : slot ≡ slotOf (lentNode cells i)) (marks : List ℕ) (S : Slotted cells i marks) where
+  module _ (i slot : ℕ) (at-slot : slot ≡ nodeSlot (lentNode cells i)) (marks : List ℕ) (S : Slotted cells i marks) where
     -- a slot that has its mark
     pub slot-kept : getD marks slot 0 ≡ 1 → Slotted cells (suc i) marks
     slot-kept e = record {
       room = S .room;
       marked = λ j h.
-          split (eqb j i) (λ q. ap (λ (k : ℕ). getD marks (slotOf (lentNode cells k)) 0) (eqb-true j i q)
+          split (eqb j i) (λ q. ap (λ (k : ℕ). getD marks (nodeSlot (lentNode cells k)) 0) (eqb-true j i q)
           ∙ ap (λ (k : ℕ). getD marks k 0) (sym at-slot) ∙ e)
           (λ q. S .marked j (below-other j i h q));
     }
@@ -96,13 +96,13 @@ module _ (cells : List ℕ) where
     slot-marked b = record {
       room = length-set marks slot 1 ∙ S .room;
       marked = λ j h.
-          split (eqb (slotOf (lentNode cells j)) slot)
-          (λ q. ap (λ (k : ℕ). getD (set marks slot 1) k 0) (eqb-true (slotOf (lentNode cells j)) slot q)
+          split (eqb (nodeSlot (lentNode cells j)) slot)
+          (λ q. ap (λ (k : ℕ). getD (set marks slot 1) k 0) (eqb-true (nodeSlot (lentNode cells j)) slot q)
           ∙ getD-set-same marks slot 1 0 (omega (arith, S .room)))
-          (λ q. getD-set-other marks slot (slotOf (lentNode cells j)) 1 0 (differ (slotOf (lentNode cells j)) slot q)
+          (λ q. getD-set-other marks slot (nodeSlot (lentNode cells j)) 1 0 (differ (nodeSlot (lentNode cells j)) slot q)
           ∙ S .marked j (below-other j i h
-          (split (eqb j i) (λ p. absurd (differ (slotOf (lentNode cells j)) slot q
-          (ap (λ (k : ℕ). slotOf (lentNode cells k)) (eqb-true j i p) ∙ sym at-slot))) (λ p. p))));
+          (split (eqb j i) (λ p. absurd (differ (nodeSlot (lentNode cells j)) slot q
+          (ap (λ (k : ℕ). nodeSlot (lentNode cells k)) (eqb-true j i p) ∙ sym at-slot))) (λ p. p))));
     }
 
     -- with no mark the node is new

@@ -1,5 +1,5 @@
 // Whether lent cells and roots are section 4's network of what they compute (document 02, 2.2, number 32), by their structure.
-pub mod canonical;
+pub mod held;
 mod reduced;
 mod walk;
 

@@ -9,7 +9,7 @@ ghost use Rattle.lists.specs.Lists.{has};
 ghost use Rattle.diagram.specs.Networks.Diagram.{sameNode};
 ghost use Rattle.diagram.specs.Canonical.Structure.{nodeReduced};
 ghost use Rattle.lent.specs.Lent.{lentNode};
-ghost use Rattle.canonical.specs.inner.Reduced.{lentNodes, isNew, reducedNodes, slots, slotOf, Slotted};
+ghost use Rattle.canonical.specs.inner.Reduced.{lentNodes, isNew, reducedNodes, slots, nodeSlot, Slotted};
 
 // Whether the low edge of node i doesn't invert, and its two edges differ.
 fn node_reduced(cells: &[u16], i: usize) -> bool
@@ -58,7 +58,7 @@ fn repeated(cells: &[u16], i: usize) -> bool
 // The slot of node i.
 fn slot_of(cells: &[u16], i: usize) -> usize
     requires { ⌜ i < length (now cells) / 3 ⌝ }
-    ensures { λ r. ⌜ (r ≡ slotOf (lentNode (now (cells .entry)) i)) × (r < slots) ⌝ }
+    ensures { λ r. ⌜ (r ≡ nodeSlot (lentNode (now (cells .entry)) i)) × (r < slots) ⌝ }
 {
     let first = 3 * i;
     let level = lent_number(cells, first);

@@ -1,11 +1,11 @@
 // Writes the network file of the table on standard input to standard output (document 02, 2.2).
-use cellfile::FILE;
-use filed::netfile::write_table;
+use filed::output::write_network_file;
 use fill::WORK;
 use lent::ROOTS;
 use libc::STDIN_FILENO;
 use libc::STDOUT_FILENO;
-use printed::built::CELLS;
+use network_file::FILE;
+use printed::built::CELL_NUMBERS;
 use printed::input::LONGEST;
 use table::PLANE;
 
@@ -16,10 +16,10 @@ fn main() {
     let mut care = [0u8; PLANE];
     let mut work = [0u8; WORK];
     let mut roots = [0u16; ROOTS];
-    let mut cells = [0u16; CELLS];
+    let mut cells = [0u16; CELL_NUMBERS];
     let mut out = [0u8; FILE];
     let length = io::read_full(STDIN_FILENO, &mut file);
-    let end = write_table(
+    let end = write_network_file(
         &file[..length],
         &mut values,
         &mut care,

@@ -164,10 +164,6 @@ pub cond-same : {A : Type 0} (b : Bool) (x : A) → cond b x x ≡ x
 cond-same true x = refl
 cond-same false x = refl
 
-pub at-full : {A : Type 0} (d p : ℕ) (a : ℕ → Bool) (x : A) → at p a (full x d) ≡ x
-at-full zero p a x = refl
-at-full (suc d) p a x = rw (at-full d (suc p) a x) (cond-same (a p) x)
-
 -- constants
 
 pub same-self : {d : ℕ} (t : Tree Bool d) → same t t ≡ true

@@ -16,8 +16,8 @@ use Rattle.block.specs.Block.{blockSize, contentAt}
 use Rattle.block.specs.Numbers.{numberByte}
 use Rattle.block.specs.Sealed.{headed, sealed}
 use Rattle.table.specs.declared.State.{State}
-use Rattle.cellfile.specs.File.{countAt, rootsAt, blockNumbers, carriedNumbers, cellBlocks}
-use Rattle.cellfile.specs.Write.{fileSize, headingByte, cellsByte, blockContent, fileByte}
+use Rattle.network_file.specs.File.{countAt, rootsAt, blockNumbers, carriedNumbers, cellBlocks}
+use Rattle.network_file.specs.Write.{fileSize, headingByte, cellsByte, blockContent, fileByte}
 use Rattle.filed.specs.NetworkFile.{networkFileSize, networkFile}
 
 -- a block has its content from byte 4 on

@@ -12,9 +12,9 @@ use Rattle.table.specs.declared.Answer.{Answer}
 use Rattle.table.specs.declared.Outcome.{Outcome}
 use Rattle.table.specs.declared.State.{State}
 use Rattle.table.specs.Answer.{done}
-use Rattle.cellfile.specs.File.{blockCells, cellBlocks}
-use Rattle.cellfile.specs.Write.{writeAnswer, writeWork, writtenFile}
-use Rattle.cellfile.proofs.Writing.WriteCall.{network-passed, file-fits}
+use Rattle.network_file.specs.File.{blockCells, cellBlocks}
+use Rattle.network_file.specs.Write.{writeAnswer, writeWork, writtenFile}
+use Rattle.network_file.proofs.Writing.WriteCall.{network-passed, file-fits}
 use Rattle.text.specs.Written.{Written}
 use Rattle.text.proofs.Writing.{written-as}
 use Rattle.printed.specs.Built.{refusedLine, Whole}

@@ -25,7 +25,7 @@ use Rattle.network.specs.Build.{networkState, heldNetwork, wanted}
 use Rattle.network.proofs.Building.HeldRead.{wanted-nodes, few-wanted}
 use Rattle.network.proofs.LinksRead.LevelsRead.{numbers-length}
 use Rattle.canonical.specs.Canonical.{canonicalAnswer}
-use Rattle.cellfile.specs.Write.{fileSize, writeAnswer, writeWork}
+use Rattle.network_file.specs.Write.{fileSize, writeAnswer, writeWork}
 use Rattle.printed.specs.Input.{inputAnswer}
 use Rattle.printed.specs.Built.{refusedLine, valuesPlane, carePlane, fileNetwork, networkHeld, outputValues, outputCare, outputWork, outputRoots, outputCells, Whole}
 use Rattle.printed.specs.BuiltInput.{builtOutcome}

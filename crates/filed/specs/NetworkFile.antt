@@ -8,8 +8,8 @@ use Rattle.block.specs.Block.{blockSize}
 use Rattle.table.specs.declared.State.{State}
 use Rattle.table.specs.Answer.{done}
 use Rattle.lent.specs.Lent.{numbersOf}
-use Rattle.cellfile.specs.File.{cellBlocks}
-use Rattle.cellfile.specs.Write.{fileByte}
+use Rattle.network_file.specs.File.{cellBlocks}
+use Rattle.network_file.specs.Write.{fileByte}
 use Rattle.printed.specs.Input.{inputAnswer}
 use Rattle.printed.specs.Built.{refusedLine, fileNetwork, networkHeld}
 

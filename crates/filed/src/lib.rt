@@ -1,2 +1,2 @@
 // The network file of the table in a program's input (document 02, 2.2).
-pub mod netfile;
+pub mod output;

@@ -3,7 +3,7 @@
 use mathlib.Core.Bool.{Bool, true, cond, not, _&&_}
 use mathlib.Core.List.{List, [], _∷_, map}
 use Prim.Native.Nat.{ℕ, zero, suc, _*_}
-use lib.Dec.{leb, eqb}
+use lib.Dec.{leb, ltb, eqb}
 use lib.ListN.{length, getD, take, drop}
 use Rattle.lists.specs.Lists.{upTo}
 use Rattle.lists.specs.Written.{splice}
@@ -78,6 +78,11 @@ countsSize = mostVariables * mostVariables
 -- in lent counts, those of the levels with a variable at level p
 abbrev pub countsOf : ℕ → List ℕ → List ℕ
 countsOf p cs = take mostVariables (drop (mostVariables * p) cs)
+
+-- the same put in, where there is such a level and room for the counts of all
+unfoldable pub countsPut : ℕ → List ℕ → List ℕ → List ℕ
+countsPut p known found =
+    cond (ltb p mostVariables && leb countsSize (length found)) (splice found (mostVariables * p) known) found
 
 -- the cells of each level under the state's order with its top variable moved to level p, the others in sequence: filled afresh
 abbrev pub trialCounts : State → List ℕ → List ℕ → ℕ → List ℕ

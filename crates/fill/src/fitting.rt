@@ -52,7 +52,7 @@ pub(crate) fn link_part(d: usize, f: &[u8], to: usize, k: usize, l: usize, work:
 }
 
 // The count parts of d + 2 variables at from, with their two top variables exchanged.
-pub(crate) fn exchange_parts(d: usize, from: usize, count: usize, work: &mut [u8])
+pub(crate) fn exchange_kept(d: usize, from: usize, count: usize, work: &mut [u8])
     requires { ⌜ d + 2 ≤ mostVariables ⌝ }
     requires { ⌜ from + count * (width (suc (suc d)) + width (suc (suc d))) ≤ length (now work) ⌝ }
     ensures { λ _. ⌜ now (work .exit)

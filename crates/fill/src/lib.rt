@@ -1,5 +1,6 @@
 // Filling and counting in a lent work buffer (document 01, section 3).
 mod cells;
+pub mod counts;
 mod descent;
 mod filling;
 mod fitting;
@@ -59,7 +60,7 @@ fn refused(answer: Answer) -> Levels
 }
 
 // Fills the held table, and leaves the links of its levels in the work buffer. Refuses with 10, then 21; a refusal leaves the work buffer.
-pub fn links(state: State, values: &[u8], care: &[u8], work: &mut [u8]) -> Levels
+pub fn fill_table(state: State, values: &[u8], care: &[u8], work: &mut [u8]) -> Levels
     ensures levels { λ r. ⌜ r ≡ levelsOf state (now (values .entry)) (now (care .entry)) (now (work .entry)) ⌝ }
     ensures work { λ _. ⌜ now (work .exit) ≡ linksWork state (now (values .entry)) (now (care .entry)) (now (work .entry)) ⌝ }
 {
@@ -106,11 +107,11 @@ pub fn clear(work: &mut [u8])
 }
 
 // Counts the cells of each level of the held table's network. A success leaves the work buffer zero.
-pub fn counts(state: State, values: &[u8], care: &[u8], work: &mut [u8]) -> Levels
+pub fn count_levels(state: State, values: &[u8], care: &[u8], work: &mut [u8]) -> Levels
     ensures levels { λ r. ⌜ r ≡ levelsOf state (now (values .entry)) (now (care .entry)) (now (work .entry)) ⌝ }
     ensures work { λ _. ⌜ now (work .exit) ≡ countWork state (now (values .entry)) (now (care .entry)) (now (work .entry)) ⌝ }
 {
-    let levels = links(state, values, care, work);
+    let levels = fill_table(state, values, care, work);
     let answer = levels.answer;
     match answer {
         Answer::Done(_) => zero(LINKS, LINK_BYTES, work),
@@ -124,14 +125,14 @@ pub fn count(state: State, values: &[u8], care: &[u8], work: &mut [u8]) -> Answe
     ensures answer { λ r. ⌜ r ≡ countAnswer state (now (values .entry)) (now (care .entry)) (now (work .entry)) ⌝ }
     ensures work { λ _. ⌜ now (work .exit) ≡ countWork state (now (values .entry)) (now (care .entry)) (now (work .entry)) ⌝ }
 {
-    let levels = counts(state, values, care, work);
+    let levels = count_levels(state, values, care, work);
     levels.answer
 }
 
 // Counts the cells of each level with the top variable of the state's order at each level in turn, the others in sequence: those with the
 // variable at level p go to the lent counts from VARIABLES * p on. A level `except` is left out, and its counts are as found. Answers how
 // many levels there are. Refuses with 10, then 21; a refusal leaves the lent buffers, a success zeros what it used of the work buffer.
-pub fn trials(
+pub fn try_levels(
     state: State,
     except: usize,
     values: &[u8],

@@ -1,7 +1,8 @@
 // The top variable of an order at each level in turn. The entries of the levels above it are kept, in two regions in turn; below it the
 // levels are made from them in two regions of their own, and only counted.
 use crate::cells::differing_pairs;
-use crate::fitting::exchange_parts;
+use crate::counts::write_counts;
+use crate::fitting::exchange_kept;
 use crate::fitting::level;
 use crate::outputs::link_outputs;
 use diagram::VARIABLES;
@@ -71,21 +72,8 @@ pub(crate) fn count_below(
     counts
 }
 
-// Writes the cells of each level, with the variable at level p.
-pub(crate) fn put_counts(p: usize, levels: [usize; VARIABLES], counts: &mut [usize])
-    requires { ⌜ (p < mostVariables) × (countsSize ≤ length (now counts)) ⌝ }
-    ensures { λ _. ⌜ now (counts .exit) ≡ splice (now (counts .entry)) (mostVariables * p) levels ⌝ }
-{
-    let at = VARIABLES * p;
-    let mut l = 0;
-    while l < VARIABLES {
-        counts[at + l] = levels[l];
-        l += 1;
-    }
-}
-
 // Counts with the variable at level p, where d variables are left, and writes the counts, unless p is the level to leave out.
-pub(crate) fn try_level(
+pub(crate) fn count_kept(
     p: usize,
     d: usize,
     except: usize,
@@ -108,7 +96,7 @@ pub(crate) fn try_level(
     }
     let above = kept.above;
     let levels = count_below(p, d, kept.from, kept.entries, above, work);
-    put_counts(p, levels, counts);
+    write_counts(p, levels, counts);
 }
 
 // The variable goes below level p: the kept entries, of d + 2 variables, have it exchanged with the next one, and the level below them is
@@ -131,7 +119,7 @@ pub(crate) fn lower(d: usize, p: usize, kept: Kept, work: &mut [u8]) -> Kept
     let from = kept.from;
     let k = kept.entries;
     let mut above = kept.above;
-    exchange_parts(d, from, k, work);
+    exchange_kept(d, from, k, work);
     let to = REGION - from;
     let entries = level(d + 1, from, k, to, LEVEL_LINKS, work);
     above[p] = differing_pairs(work, LEVEL_LINKS, k);
@@ -183,9 +171,9 @@ pub(crate) fn try_held(
     };
     let mut p = 0;
     while p + 1 < state.n {
-        try_level(p, state.n - p, except, kept, counts, work);
+        count_kept(p, state.n - p, except, kept, counts, work);
         kept = lower(state.n - p - 2, p, kept, work);
         p += 1;
     }
-    try_level(p, 1, except, kept, counts, work);
+    count_kept(p, 1, except, kept, counts, work);
 }

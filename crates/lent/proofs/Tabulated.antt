@@ -1,4 +1,4 @@
--- The bytes of a table's values or care, read as a stream again: each bit is the row's, and each byte is one.
+-- The bytes of a table's values or care, read as a stream again: each bit is the row's.
 -- Assumes nothing.
 use mathlib.Core.Path.{_≡_, _∙_}
 use mathlib.Core.Bool.{Bool}
@@ -9,7 +9,6 @@ use native.Mathlib.Omega.{arith}
 use borrow.Author.Tests.{lt-ltb}
 use lib.Pow.{high, low}
 use Rattle.lists.specs.Written.{over}
-use Rattle.lists.proofs.Bits.Packed.{packed-lt}
 use Rattle.diagram.specs.Filling.Fill.{Row}
 use Rattle.diagram.specs.Table.{Table}
 use Rattle.block.specs.Bits.{streamBit}
@@ -17,12 +16,8 @@ use Rattle.table.specs.Stream.{planeByte}
 use Rattle.table.specs.Calls.{planeSize}
 use Rattle.table.proofs.Planes.PlaneBits.{packed-plane}
 use Rattle.lent.specs.inner.Tabulate.{tableBit}
-use Rattle.lent.proofs.Tabulating.{byte-of-bits}
 
 module _ (field : Row → Bool) (t : Table) where
-  pub plane-byte-small : (i : ℕ) → planeByte field t i < 256
-  plane-byte-small i = omega (arith, byte-of-bits field t i, packed-lt 8 (λ b. tableBit field t (8 * i + b)))
-
   stream-bit : (plane : List ℕ) (x : ℕ) → x < 8 * planeSize → streamBit (over (planeByte field t) planeSize plane) x ≡ tableBit field t x
   unfolding planeByte tableBit
   stream-bit plane x h = packed-plane (tableBit field t) plane x h

@@ -1,10 +1,10 @@
 // Candidates of at most 64 rows, as two words: f their values and c their care, of w bytes each. A word may be read past the end of an
 // entry's plane: what lies there is no row that c cares for.
 use crate::entries::Linked;
+use crate::words::eight_bytes;
 use crate::words::merge_word;
 use crate::words::part_word;
 use crate::words::put_word;
-use crate::words::word_at;
 ghost use mathlib.Core.Path.{_≡_};
 ghost use mathlib.Core.List.{_++_};
 ghost use Prim.Native.Nat.{_+_, _*_, _^_, _≤_, _<_};
@@ -23,8 +23,8 @@ pub(crate) fn first_word(w: usize, f: u64, c: u64, region: &[u8], k: usize) -> u
     let mut e = 0;
     let mut a = 0;
     while e < k {
-        let both = c & word_at(region, a + w);
-        let differ = (f ^ word_at(region, a)) & both;
+        let both = c & eight_bytes(region, a + w);
+        let differ = (f ^ eight_bytes(region, a)) & both;
         if differ == 0 {
             return 2 * (e + 1);
         }

@@ -5,8 +5,8 @@ use crate::link::put_link;
 use crate::link::repeat_link;
 use crate::narrow::candidate_word;
 use crate::words::WORD;
+use crate::words::eight_bytes;
 use crate::words::merge_word;
-use crate::words::word_at;
 use reorder::width::width_of;
 ghost use mathlib.Core.Path.{_≡_};
 ghost use mathlib.Core.Logic.{_⊎_};
@@ -17,18 +17,18 @@ ghost use Rattle.reorder.specs.Sizes.{width};
 ghost use Rattle.matching.specs.Links.{regionSize};
 ghost use Rattle.matching.specs.Parts.{chunks, halfBytes, levelParts, offeredParts};
 ghost use Rattle.matching.specs.Level.{partAt, partsAt, written};
-ghost use Rattle.matching.specs.inner.Words.{wordSize, wordOf, partOf};
+ghost use Rattle.matching.specs.inner.Words.{wordSize, numberOf, partOf};
 
 // Half b of the plane at a, where the half has d variables: a word by itself, or bits of one.
 pub(crate) fn half_word(b: bool, d: usize, a: usize, work: &[u8]) -> u64
     requires { ⌜ (d ≤ 6) × (a + width (suc d) + wordSize ≤ length (now work)) ⌝ }
-    ensures { λ r. ⌜ r ≡ wordOf (halfBytes b d (width d) (take (width (suc d)) (drop a (now (work .entry))))) ⌝ }
+    ensures { λ r. ⌜ r ≡ numberOf (halfBytes b d (width d) (take (width (suc d)) (drop a (now (work .entry))))) ⌝ }
 {
     if d == 6 {
-        return word_at(work, a + where_true(b, WORD));
+        return eight_bytes(work, a + where_true(b, WORD));
     }
     let rows = 1usize << d;
-    word_at(work, a) >> where_true(b, rows) & ((1u64 << rows) - 1)
+    eight_bytes(work, a) >> where_true(b, rows) & ((1u64 << rows) - 1)
 }
 
 // Links the candidate whose values are f and whose care is c, of w bytes each, among the k entries at to, and writes its link at l. Returns

@@ -1,6 +1,6 @@
 // Candidates of more than 64 rows, compared with entries eight bytes at a time.
 use crate::words::WORD;
-use crate::words::word_at;
+use crate::words::eight_bytes;
 ghost use mathlib.Core.Path.{_≡_};
 ghost use mathlib.Core.List.{[], _∷_};
 ghost use Prim.Native.Nat.{_+_, _*_, _%_, _≤_, _<_};
@@ -19,8 +19,8 @@ pub(crate) fn agree_words(w: usize, f: &[u8], region: &[u8], a: usize) -> usize
     let mut inverted: u64 = 0;
     let mut j = 0;
     while j < w {
-        let both = word_at(f, w + j) & word_at(region, a + w + j);
-        let differ = (word_at(f, j) ^ word_at(region, a + j)) & both;
+        let both = eight_bytes(f, w + j) & eight_bytes(region, a + w + j);
+        let differ = (eight_bytes(f, j) ^ eight_bytes(region, a + j)) & both;
         plain |= differ;
         inverted |= differ ^ both;
         j += WORD;

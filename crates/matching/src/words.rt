@@ -4,15 +4,15 @@ ghost use Prim.Native.Nat.{_+_, _≤_};
 ghost use lib.ListN.{length, take, drop};
 ghost use Rattle.lists.specs.Written.{splice};
 ghost use Rattle.matching.specs.Bytes.{mergeByte};
-ghost use Rattle.matching.specs.inner.Words.{wordSize, wordOf, bytesOf};
+ghost use Rattle.matching.specs.inner.Words.{wordSize, numberOf, bytesOf};
 
 // The bytes of a word; specs/Links.antt has the definition, `wordSize`.
 pub(crate) const WORD: usize = 8;
 
 // The word at a.
-pub(crate) fn word_at(s: &[u8], a: usize) -> u64
+pub(crate) fn eight_bytes(s: &[u8], a: usize) -> u64
     requires { ⌜ a + wordSize ≤ length (now s) ⌝ }
-    ensures { λ r. ⌜ r ≡ wordOf (take wordSize (drop a (now (s .entry)))) ⌝ }
+    ensures { λ r. ⌜ r ≡ numberOf (take wordSize (drop a (now (s .entry)))) ⌝ }
 {
     (s[a] as u64)
         + ((s[a + 1] as u64) << 8)
@@ -27,7 +27,7 @@ pub(crate) fn word_at(s: &[u8], a: usize) -> u64
 // The number of the w bytes at a.
 pub(crate) fn part_word(w: usize, s: &[u8], a: usize) -> u64
     requires { ⌜ (w ≤ wordSize) × (a + w ≤ length (now s)) ⌝ }
-    ensures { λ r. ⌜ r ≡ wordOf (take w (drop a (now (s .entry)))) ⌝ }
+    ensures { λ r. ⌜ r ≡ numberOf (take w (drop a (now (s .entry)))) ⌝ }
 {
     let mut x: u64 = 0;
     let mut j = w;

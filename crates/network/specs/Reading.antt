@@ -20,8 +20,8 @@ use Rattle.network.specs.Levels.{Made, made, levelAt, rootAt, levelsMade
 abbrev pub boarded : List ℕ → Answer → Answer
 boarded cells a = unless (leb (value a) (capacity cells)) (TooSmall (value a)) a
 
-unfoldable pub readAnswer : ℕ → ℕ → List ℕ → List ℕ → List ℕ → List ℕ → Answer
-readAnswer n m entries work roots cells =
+unfoldable pub readLinksAnswer : ℕ → ℕ → List ℕ → List ℕ → List ℕ → List ℕ → Answer
+readLinksAnswer n m entries work roots cells =
     unless (leb rootsSize (length roots)) ShortBuffer
     (unlessRefused (linkedLevels n m entries work .answer) (boarded cells (linkedLevels n m entries work .answer)))
 
@@ -29,15 +29,15 @@ readAnswer n m entries work roots cells =
 abbrev pub readMade : ℕ → ℕ → List ℕ → List ℕ → List ℕ → Made
 readMade n m entries work cells = levelsMade m entries (linkedLevels n m entries work .counts) 0 n (made work cells 0)
 
-unfoldable pub readRoots : ℕ → ℕ → List ℕ → List ℕ → List ℕ → List ℕ → List ℕ
-readRoots n m entries work roots cells =
-    cond (done (readAnswer n m entries work roots cells))
+unfoldable pub readLinksRoots : ℕ → ℕ → List ℕ → List ℕ → List ℕ → List ℕ → List ℕ
+readLinksRoots n m entries work roots cells =
+    cond (done (readLinksAnswer n m entries work roots cells))
     (over (rootAt (readMade n m entries work cells .work) m (levelAt m entries 0)) rootsSize roots) roots
 
-unfoldable pub readCells : ℕ → ℕ → List ℕ → List ℕ → List ℕ → List ℕ → List ℕ
-readCells n m entries work roots cells =
-    cond (done (readAnswer n m entries work roots cells)) (readMade n m entries work cells .cells) cells
+unfoldable pub readLinksCells : ℕ → ℕ → List ℕ → List ℕ → List ℕ → List ℕ → List ℕ
+readLinksCells n m entries work roots cells =
+    cond (done (readLinksAnswer n m entries work roots cells)) (readMade n m entries work cells .cells) cells
 
 -- 'Every call lent the work buffer leaves it zero after a success or 23'
-unfoldable pub readWork : ℕ → ℕ → List ℕ → List ℕ → List ℕ → List ℕ → List ℕ
-readWork n m entries work roots cells = cond (clears (readAnswer n m entries work roots cells)) (zeroWork work) work
+unfoldable pub readLinksWork : ℕ → ℕ → List ℕ → List ℕ → List ℕ → List ℕ → List ℕ
+readLinksWork n m entries work roots cells = cond (clears (readLinksAnswer n m entries work roots cells)) (zeroWork work) work

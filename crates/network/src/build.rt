@@ -1,7 +1,7 @@
 // Building section 4's network in lent cells.
 use crate::reading::lay_out;
 use fill::clear;
-use fill::links;
+use fill::fill_table;
 use lent::ROOTS;
 use table::Answer;
 use table::Outcome;
@@ -65,7 +65,7 @@ pub fn build(
             state,
         };
     }
-    let levels = links(state, values, care, work);
+    let levels = fill_table(state, values, care, work);
     let answer = levels.answer;
     let Answer::Done(total) = answer else {
         return Outcome { answer, state };

@@ -17,7 +17,7 @@ ghost use Rattle.diagram.specs.Networks.Bound.{mostVariables, mostOutputs};
 ghost use Rattle.fill.specs.Work.{workSize, clearedWork};
 ghost use Rattle.lent.specs.Lent.{rootsSize};
 ghost use Rattle.network.specs.Levels.{storedLimit, made, levelAt, levelsMade, rootAt};
-ghost use Rattle.network.specs.Reading.{readAnswer, readRoots, readCells, readWork};
+ghost use Rattle.network.specs.Reading.{readLinksAnswer, readLinksRoots, readLinksCells, readLinksWork};
 
 // Reads the levels and the outputs off the links in the work buffer, and clears it.
 pub(crate) fn lay_out(
@@ -60,12 +60,12 @@ pub fn read_links(
     roots: &mut [u16],
     cells: &mut [u16],
 ) -> Answer
-    ensures answer { λ r. ⌜ r ≡ readAnswer n m entries (now (work .entry)) (now (roots .entry)) (now (cells .entry)) ⌝ }
+    ensures answer { λ r. ⌜ r ≡ readLinksAnswer n m entries (now (work .entry)) (now (roots .entry)) (now (cells .entry)) ⌝ }
     ensures roots { λ _.
-        ⌜ now (roots .exit) ≡ readRoots n m entries (now (work .entry)) (now (roots .entry)) (now (cells .entry)) ⌝ }
+        ⌜ now (roots .exit) ≡ readLinksRoots n m entries (now (work .entry)) (now (roots .entry)) (now (cells .entry)) ⌝ }
     ensures cells { λ _.
-        ⌜ now (cells .exit) ≡ readCells n m entries (now (work .entry)) (now (roots .entry)) (now (cells .entry)) ⌝ }
-    ensures work { λ _. ⌜ now (work .exit) ≡ readWork n m entries (now (work .entry)) (now (roots .entry)) (now (cells .entry)) ⌝ }
+        ⌜ now (cells .exit) ≡ readLinksCells n m entries (now (work .entry)) (now (roots .entry)) (now (cells .entry)) ⌝ }
+    ensures work { λ _. ⌜ now (work .exit) ≡ readLinksWork n m entries (now (work .entry)) (now (roots .entry)) (now (cells .entry)) ⌝ }
 {
     if roots.len() < ROOTS {
         return Answer::ShortBuffer;

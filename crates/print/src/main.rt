@@ -3,7 +3,7 @@ use fill::WORK;
 use lent::ROOTS;
 use libc::STDIN_FILENO;
 use libc::STDOUT_FILENO;
-use printed::built::CELLS;
+use printed::built::CELL_NUMBERS;
 use printed::input::LONGEST;
 use printed::output::TEXT;
 use printed::output::print_table;
@@ -16,7 +16,7 @@ fn main() {
     let mut care = [0u8; PLANE];
     let mut work = [0u8; WORK];
     let mut roots = [0u16; ROOTS];
-    let mut cells = [0u16; CELLS];
+    let mut cells = [0u16; CELL_NUMBERS];
     let mut out = [0u8; TEXT];
     let length = io::read_full(STDIN_FILENO, &mut file);
     let end = print_table(

@@ -10,7 +10,7 @@ ghost use Rattle.printed.specs.Input.{inputValues, inputCare};
 ghost use Rattle.printed.specs.BuiltInput.{builtOutcome, builtWork, builtRoots, builtCells};
 
 // The numbers of the cells that any table needs.
-pub const CELLS: usize = 3 * NODES;
+pub const CELL_NUMBERS: usize = 3 * NODES;
 
 // Reads the table in a program's input, and builds its network in the file's order; or gives the refusal of either.
 pub fn build_input(

@@ -1,5 +1,5 @@
 // The whole output of the printing program: the network of the table in its input, or a refusal (document 01, section 8).
-use crate::built::CELLS;
+use crate::built::CELL_NUMBERS;
 use crate::built::build_input;
 use crate::refusal::refusal;
 use fill::WORK;
@@ -92,7 +92,7 @@ pub fn print_table(
     care: &mut [u8; PLANE],
     work: &mut [u8; WORK],
     roots: &mut [u16; ROOTS],
-    cells: &mut [u16; CELLS],
+    cells: &mut [u16; CELL_NUMBERS],
     out: &mut [u8; TEXT],
 ) -> usize
     ensures text { λ r. ⌜ Whole (now (out .entry)) (now (out .exit)) r (outputOf (now (file .entry))) ⌝ }

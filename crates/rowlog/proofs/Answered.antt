@@ -19,7 +19,7 @@ use Rattle.table.specs.State.{stageOf, isNothing, reorderedState}
 use Rattle.table.specs.Calls.{planeSize}
 use Rattle.table.proofs.Files.Accepted.{unless-done}
 use Rattle.rowlog.specs.Log.{mostRecords, recordsOf, seen, logAnswer, logOutcome, logCounts, logCare}
-use Rattle.rowlog.specs.inner.Care.{careByte}
+use Rattle.rowlog.specs.inner.Care.{countedByte}
 use Rattle.rowlog.proofs.Counting.{counted-first}
 use Rattle.rowlog.proofs.Caring.{byte-logged}
 
@@ -90,7 +90,7 @@ module _ (s : State) (rows counts care : List ℕ) where
         (rw q (λ i. record { answer = e i; state = s }), (rw q, rw q))
 
     pub log-done : done a ≡ true → (cs ks : List ℕ) → cs ≡ over (seen rows counts) (length counts) counts
-        → ks ≡ over (careByte cs least (s .n) (s .m * 2 ^ s .n)) planeSize care
+        → ks ≡ over (countedByte cs least (s .n) (s .m * 2 ^ s .n)) planeSize care
         → Ended least (record { answer = a; state = reorderedState s (s .order) }) cs ks
     unfolding logOutcome logCounts logCare
     log-done d cs ks ec ek =
@@ -100,7 +100,7 @@ module _ (s : State) (rows counts care : List ℕ) where
           rw q (λ i. record { answer = e i; state = reorderedState s (s .order) }),
           (
             rw q c,
-            rw q (ek ∙ ap (λ (xs : List ℕ). over (careByte xs least (s .n) (s .m * 2 ^ s .n)) planeSize care) c
+            rw q (ek ∙ ap (λ (xs : List ℕ). over (countedByte xs least (s .n) (s .m * 2 ^ s .n)) planeSize care) c
                 ∙ ap (λ (f : ℕ → ℕ). over f planeSize care) (λ k i. byte-logged s rows counts least i k)),
           ),
         )

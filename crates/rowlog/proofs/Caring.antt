@@ -14,7 +14,7 @@ use Rattle.lists.specs.Written.{over}
 use Rattle.lists.proofs.Written.Over.{getD-over}
 use Rattle.table.specs.declared.State.{State}
 use Rattle.rowlog.specs.Log.{seen, loggedByte}
-use Rattle.rowlog.specs.inner.Care.{careBit, careByte}
+use Rattle.rowlog.specs.inner.Care.{careBit, countedByte}
 
 module _ (counts : List ℕ) (least n end : ℕ) where
   pub bit-past : (x : ℕ) → end ≤ x → careBit counts least n end x ≡ false
@@ -28,14 +28,14 @@ module _ (counts : List ℕ) (least n end : ℕ) where
   bit-within x row count h er ec = rw (lt-ltb x end h) (ap (leb least) (ec ∙ ap (λ (i : ℕ). getD counts i 0) er))
 
   -- the eight bits of a byte
-  pub byte-of-bits : (i : ℕ) → packed 8 (λ b. careBit counts least n end (8 * i + b)) ≡ careByte counts least n end i
-  unfolding careByte
+  pub byte-of-bits : (i : ℕ) → packed 8 (λ b. careBit counts least n end (8 * i + b)) ≡ countedByte counts least n end i
+  unfolding countedByte
   byte-of-bits i = refl
 
 -- by the counts as they are reached
 pub byte-logged : (s : State) (rows counts : List ℕ) (least i : ℕ)
-    → careByte (over (seen rows counts) (2 ^ s .n) counts) least (s .n) (s .m * 2 ^ s .n) i ≡ loggedByte s rows least counts i
-unfolding careByte careBit loggedByte
+    → countedByte (over (seen rows counts) (2 ^ s .n) counts) least (s .n) (s .m * 2 ^ s .n) i ≡ loggedByte s rows least counts i
+unfolding countedByte careBit loggedByte
 byte-logged s rows counts least i =
     ap (packed 8)
     (λ k b. ltb (8 * i + b) (s .m * 2 ^ s .n)

@@ -7,7 +7,7 @@ ghost use lib.ListN.{length};
 ghost use Rattle.lists.specs.Written.{over};
 ghost use Rattle.diagram.specs.Networks.Bound.{mostVariables};
 ghost use Rattle.table.specs.Calls.{planeSize};
-ghost use Rattle.rowlog.specs.inner.Care.{careBit, careByte};
+ghost use Rattle.rowlog.specs.inner.Care.{careBit, countedByte};
 
 // Bit x of the stream of care: each output has 2ⁿ rows, and past the stream's end there is none.
 fn care_bit(counts: &[u32], least: u32, n: usize, end: usize, x: usize) -> bool
@@ -24,7 +24,7 @@ fn care_bit(counts: &[u32], least: u32, n: usize, end: usize, x: usize) -> bool
 // Byte i of the stream of care, the first bit the lowest.
 fn care_byte(counts: &[u32], least: u32, n: usize, end: usize, i: usize) -> u8
     requires { ⌜ (n ≤ mostVariables) × (i < planeSize) ⌝ }
-    ensures { λ r. ⌜ r ≡ careByte (now (counts .entry)) least n end i ⌝ }
+    ensures { λ r. ⌜ r ≡ countedByte (now (counts .entry)) least n end i ⌝ }
 {
     let mut byte: u8 = 0;
     let mut b: usize = 0;
@@ -40,7 +40,7 @@ fn care_byte(counts: &[u32], least: u32, n: usize, end: usize, i: usize) -> u8
 // Writes the stream of care, and zeros to the plane's end.
 pub(crate) fn write_care(counts: &[u32], least: u32, n: usize, end: usize, care: &mut [u8])
     requires { ⌜ (n ≤ mostVariables) × (planeSize ≤ length (now care)) ⌝ }
-    ensures { λ _. ⌜ now (care .exit) ≡ over (careByte (now (counts .entry)) least n end) planeSize (now (care .entry)) ⌝ }
+    ensures { λ _. ⌜ now (care .exit) ≡ over (countedByte (now (counts .entry)) least n end) planeSize (now (care .entry)) ⌝ }
 {
     let mut i: usize = 0;
     while i < PLANE {

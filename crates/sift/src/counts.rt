@@ -4,21 +4,8 @@ ghost use mathlib.Core.Path.{_≡_};
 ghost use mathlib.Core.List.{sum};
 ghost use Prim.Native.Nat.{_+_, _*_, _≤_, _<_};
 ghost use lib.ListN.{length};
-ghost use Rattle.lists.specs.Written.{splice};
 ghost use Rattle.diagram.specs.Networks.Bound.{mostVariables, mostNodes};
 ghost use Rattle.fill.specs.Calls.{countsSize, countsOf};
-
-// Puts in the counts of level p.
-pub(crate) fn put_counts(counts: &mut [usize], p: usize, known: [usize; VARIABLES])
-    requires { ⌜ (p < mostVariables) × (countsSize ≤ length (now counts)) ⌝ }
-    ensures { λ _. ⌜ now (counts .exit) ≡ splice (now (counts .entry)) (mostVariables * p) known ⌝ }
-{
-    let mut l: usize = 0;
-    while l < VARIABLES {
-        counts[VARIABLES * p + l] = known[l];
-        l += 1;
-    }
-}
 
 // Reads off the counts of level p.
 pub(crate) fn counts_of(counts: &[usize], p: usize) -> [usize; VARIABLES]

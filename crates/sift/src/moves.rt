@@ -1,7 +1,7 @@
 // What moving each variable to each level would bring (document 02, 2.8). Nothing is moved.
 use crate::counts::total_of;
-use crate::room::has_room;
-use crate::trials::count_levels;
+use crate::room::lent_enough;
+use crate::trials::count_moves;
 use diagram::VARIABLES;
 use fill::COUNTS;
 use table::Answer;
@@ -70,7 +70,7 @@ fn report_variable(
     ensures work { λ _. ⌜ now (work .exit) ≡ trialsZero (now (work .entry)) ⌝ }
 {
     let mut counts = [0usize; COUNTS];
-    count_levels(state, v, known, values, care, &mut counts, work);
+    count_moves(state, v, known, values, care, &mut counts, work);
     write_gains(row, state.n, present, &counts);
 }
 
@@ -84,7 +84,7 @@ fn report(state: State, gains: &mut [i32], values: &[u8], care: &[u8], work: &mu
         (now (gains .entry)) ⌝ }
     ensures work { λ _. ⌜ now (work .exit) ≡ zeroWork (now (work .entry)) ⌝ }
 {
-    let levels = fill::counts(state, values, care, work);
+    let levels = fill::count_levels(state, values, care, work);
     let known = levels.counts;
     let answer = levels.answer;
     let present = value_of(answer);
@@ -119,7 +119,7 @@ pub fn moves(state: State, gains: &mut [i32], values: &[u8], care: &[u8], work: 
     ensures reported { λ r.
         ⌜ (done r ≡ true → Reported state (now (values .entry)) (now (care .entry)) (now (work .entry)) (now (gains .exit))) ⌝ }
 {
-    if !has_room(values.len(), care.len(), work.len()) {
+    if !lent_enough(values.len(), care.len(), work.len()) {
         return Answer::ShortBuffer;
     }
     if !holds_table(state) {

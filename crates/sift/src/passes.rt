@@ -1,7 +1,7 @@
 // A pass: each variable sifted once, under a limit of orders tried (document 01, section 5).
 use crate::choice::fullest;
 use crate::order::moved_to;
-use crate::room::has_room;
+use crate::room::lent_enough;
 use crate::trials::reorder;
 use crate::trials::sift_one;
 use diagram::VARIABLES;
@@ -69,7 +69,7 @@ fn run(state: State, limit: usize, values: &[u8], care: &[u8], work: &mut [u8]) 
         ⌜ r ≡ progressOf state (now (values .entry)) (now (care .entry)) (passOf state limit (now (values .entry)) (now (care .entry))) ⌝ }
     ensures work { λ _. ⌜ now (work .exit) ≡ zeroWork (now (work .entry)) ⌝ }
 {
-    let levels = fill::counts(state, values, care, work);
+    let levels = fill::count_levels(state, values, care, work);
     let counts = levels.counts;
     let n = state.n;
     let order = state.order;
@@ -95,7 +95,7 @@ pub fn pass(state: State, limit: u32, values: &[u8], care: &[u8], work: &mut [u8
     ensures work { λ _. ⌜ now (work .exit) ≡ passWork state limit (now (values .entry)) (now (care .entry)) (now (work .entry)) ⌝ }
     ensures demand { λ r. ⌜ (done (r .answer) ≡ true → PassDemand state limit (now (values .entry)) (now (care .entry)) r) ⌝ }
 {
-    if !has_room(values.len(), care.len(), work.len()) {
+    if !lent_enough(values.len(), care.len(), work.len()) {
         return Outcome {
             answer: Answer::ShortBuffer,
             state,

@@ -8,7 +8,7 @@ ghost use Rattle.table.specs.Calls.{planeSize};
 ghost use Rattle.fill.specs.Work.{workSize};
 
 // Whether values, care and work buffer of these lengths are enough.
-pub(crate) fn has_room(values: usize, care: usize, work: usize) -> bool
+pub(crate) fn lent_enough(values: usize, care: usize, work: usize) -> bool
     ensures { λ r. ⌜ r ≡ (leb planeSize values && (leb planeSize care && leb workSize work)) ⌝ }
 {
     if values < PLANE {

@@ -1,6 +1,6 @@
 // The sift of a single variable (document 01, section 5).
 use crate::order::moved_to;
-use crate::room::has_room;
+use crate::room::lent_enough;
 use crate::trials::reorder;
 use crate::trials::sift_one;
 use table::Answer;
@@ -18,7 +18,7 @@ pub fn sift(state: State, variable: usize, values: &[u8], care: &[u8], work: &mu
     ensures work { λ _. ⌜ now (work .exit) ≡ siftWork state variable (now (values .entry)) (now (care .entry)) (now (work .entry)) ⌝ }
     ensures demand { λ r. ⌜ (done (r .answer) ≡ true → SiftDemand variable (now (values .entry)) (now (care .entry)) r) ⌝ }
 {
-    if !has_room(values.len(), care.len(), work.len()) {
+    if !lent_enough(values.len(), care.len(), work.len()) {
         return Outcome {
             answer: Answer::ShortBuffer,
             state,
@@ -37,7 +37,7 @@ pub fn sift(state: State, variable: usize, values: &[u8], care: &[u8], work: &mu
             state,
         };
     }
-    let levels = fill::counts(state, values, care, work);
+    let levels = fill::count_levels(state, values, care, work);
     let known = levels.counts;
     let found = sift_one(state, variable, known, values, care, work);
     let best = found.best;

@@ -1,11 +1,11 @@
 // Trying an order means filling and counting under it; trying a variable at every level, from the top down, finds the best of them
 // (document 01, section 5; ties as in document 02, 2.3).
 use crate::counts::counts_of;
-use crate::counts::put_counts;
 use crate::counts::total_of;
 use crate::order::moved_to;
 use diagram::VARIABLES;
 use fill::COUNTS;
+use fill::counts::put_counts;
 use table::Stage;
 use table::State;
 use table::order::level_of;
@@ -81,7 +81,7 @@ fn try_level(best: Best, p: usize, nodes: usize, present: bool) -> Best
 }
 
 // Counts the nodes of each level with v at each level in turn, but where v stands: there they are known.
-pub(crate) fn count_levels(
+pub(crate) fn count_moves(
     state: State,
     v: usize,
     known: [usize; VARIABLES],
@@ -104,7 +104,7 @@ pub(crate) fn count_levels(
     put_counts(counts, q, known);
     let top = moved_to(order, n, v, 0);
     let current = reorder(state, top);
-    fill::trials(current, q, values, care, counts, work);
+    fill::try_levels(current, q, values, care, counts, work);
 }
 
 // Tries v at every level from the top down. Of those with the fewest nodes it takes the one where v stands, or else the topmost.
@@ -126,7 +126,7 @@ fn best_level(
         ⌜ MovedCounts (heldTable state (now (values .entry)) (now (care .entry))) v (orderOf state) (now (counts .exit)) ⌝ }
     ensures work { λ _. ⌜ now (work .exit) ≡ trialsZero (now (work .entry)) ⌝ }
 {
-    count_levels(state, v, known, values, care, counts, work);
+    count_moves(state, v, known, values, care, counts, work);
     let order = state.order;
     let mut best = Best {
         level: 0,

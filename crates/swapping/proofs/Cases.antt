@@ -3,9 +3,9 @@
 use mathlib.Core.Path.{_≡_, refl, sym, ap, _∙_, subst, subst₂}
 use mathlib.Core.Bool.{true, false}
 use mathlib.Core.List.{List, _++_}
-use Prim.Native.Nat.{ℕ, _*_, _≤_, _<_}
+use Prim.Native.Nat.{ℕ, _*_, _≤_}
 use native.Mathlib.Omega.{arith}
-use borrow.Author.Tests.{le-leb, lt-leb, eq-eqb, ne-eqb}
+use borrow.Author.Tests.{le-leb, eq-eqb, ne-eqb}
 use lib.Dec.{leb, leb→le, eqb}
 use lib.ListN.{length, getD, drop}
 use Rattle.lists.specs.Written.{over}
@@ -24,7 +24,7 @@ use Rattle.fill.proofs.Counting.LinkPairs.{Links}
 use Rattle.fill.proofs.Counting.LinkedLevels.{linked-fit, linked-at, linked-total}
 use Rattle.lent.specs.Lent.{numbersOf, rootsSize}
 use Rattle.network.specs.Build.{capacity, networkState, clears}
-use Rattle.network.specs.Reading.{readAnswer, readRoots, readCells, readWork}
+use Rattle.network.specs.Reading.{readLinksAnswer, readLinksRoots, readLinksCells, readLinksWork}
 use Rattle.swapping.specs.Swap.{cellTable, exchangedOrder, swappedNetwork, swappedCount, swapChecks, swapCellsAnswer}
 use Rattle.swapping.specs.Swap.{swapCellsOutcome, swapCellsRoots, swapCellsCells, clearsSwap, swapCellsWork}
 use Rattle.swapping.specs.inner.Exchange.{lentAt, putLinks, Entered}
@@ -109,9 +109,6 @@ module _ (s : State) (p : ℕ) (work roots cells : List ℕ) where
     unfolding swapCellsAnswer
     board-answer = P .next (unless (leb count (capacity cells)) (TooSmall count) (Done 0))
 
-    too-small : capacity cells < count → answered ≡ TooSmall count
-    too-small h = board-answer ∙ (let f = lt-leb count (capacity cells) h in rw f)
-
     enough : count ≤ capacity cells → answered ≡ Done 0
     enough h = board-answer ∙ (let f = le-leb count (capacity cells) h in rw f)
 
@@ -162,10 +159,10 @@ module _ (s : State) (p : ℕ) (work roots cells : List ℕ) where
       counted = linked-total (s .n) (s .m) entries w fit ∙ ap Done (read-total t other en em entries cs sized)
 
       abbrev read : Answer
-      read = readAnswer (s .n) (s .m) entries w roots cells
+      read = readLinksAnswer (s .n) (s .m) entries w roots cells
 
       read-answer : read ≡ unless (leb count (capacity cells)) (TooSmall count) (Done count)
-      unfolding readAnswer
+      unfolding readLinksAnswer
       read-answer = rw (le-leb rootsSize (length roots) (P .tested .long), counted)
 
       read-enough : leb count (capacity cells) ≡ true → read ≡ Done count
@@ -175,14 +172,14 @@ module _ (s : State) (p : ℕ) (work roots cells : List ℕ) where
       read-small q = read-answer ∙ rw q
 
       -- what it leaves: x is its answer
-      module _ (x : Answer) (ex : x ≡ read) (w′ r′ c′ : List ℕ) (yr : r′ ≡ readRoots (s .n) (s .m) entries w roots cells)
-          (yc : c′ ≡ readCells (s .n) (s .m) entries w roots cells) (yw : w′ ≡ readWork (s .n) (s .m) entries w roots cells) where
+      module _ (x : Answer) (ex : x ≡ read) (w′ r′ c′ : List ℕ) (yr : r′ ≡ readLinksRoots (s .n) (s .m) entries w roots cells)
+          (yc : c′ ≡ readLinksCells (s .n) (s .m) entries w roots cells) (yw : w′ ≡ readLinksWork (s .n) (s .m) entries w roots cells) where
         left-zero : clears x ≡ true → w′ ≡ zeroWork work
-        unfolding readWork
+        unfolding readLinksWork
         left-zero e = let f : clears read ≡ true = sym (ap clears ex) ∙ e in yw ∙ rw f (zero-same w work past)
 
         pub small-case : done x ≡ false → Ended (outcome x s) w′ r′ c′
-        unfolding readRoots readCells
+        unfolding readLinksRoots readLinksCells
         small-case d =
             let f : done read ≡ false = sym (ap done ex) ∙ d in
             split (leb count (capacity cells))
@@ -196,7 +193,7 @@ module _ (s : State) (p : ℕ) (work roots cells : List ℕ) where
 
         pub laid-case : (total : ℕ) → x ≡ Done total → (y : State) → y ≡ networkState (reorderedState s (exchanged p (s .order))) total
             → Ended (outcome (Done 0) y) w′ r′ c′
-        unfolding readRoots readCells swappedCount swappedNetwork
+        unfolding readLinksRoots readLinksCells swappedCount swappedNetwork
         laid-case total et y ey =
             let f : done read ≡ true = sym (ap done ex) ∙ ap done et in
             let z : read ≡ Done total = sym ex ∙ et in

@@ -22,7 +22,7 @@ use Rattle.diagram.specs.Networks.Diagram.{inverts}
 use Rattle.diagram.specs.Exchanging.Exchange.{Pair, both, samePair, normalPair, sameClass, constantPair, entriesAfter, linkInto}
 use Rattle.diagram.proofs.Exchanging.Pairs.{pair-equality}
 use Rattle.matching.specs.Links.{linkNumber}
-use Rattle.swapping.specs.inner.Exchange.{pairOf, pairsIn, slots, slotOf, Seen, Shows}
+use Rattle.swapping.specs.inner.Exchange.{pairOf, pairsIn, slots, pairSlot, Seen, Shows}
 use Rattle.swapping.proofs.SeenPairs.{classesOf, index-class, has-class, distinct-class, index-none, pairs-length, pair-at}
 
 -- one constant
@@ -114,7 +114,7 @@ module _ (x : ℕ) (list marks : List ℕ) (len : ℕ) (s : Seen len list marks)
           ∙ ap (λ (i : ℕ). 2 * (k + 1) + i) (sym (odd-sum x (getD list k 0)))))
 
     -- a new class, with room for one more; `slot` is the class's
-    module _ (h : len ≤ k) (room : len < length list) (slot : ℕ) (es : slot ≡ slotOf (normalPair f)) (hs : slot < slots) where
+    module _ (h : len ≤ k) (room : len < length list) (slot : ℕ) (es : slot ≡ pairSlot (normalPair f)) (hs : slot < slots) where
       unknown : has sameClass f gs ≡ false
       unknown =
           split (has sameClass f gs)
@@ -147,25 +147,25 @@ module _ (x : ℕ) (list marks : List ℕ) (len : ℕ) (s : Seen len list marks)
           (to-not (sym (has-class f gs) ∙ unknown)))
 
       marked-more : (e : ℕ) → e < len + 1
-          → 1 ≤ getD (set marks slot (len + 1)) (slotOf (normalPair (pairOf (getD (set list len x) e 0)))) 0
+          → 1 ≤ getD (set marks slot (len + 1)) (pairSlot (normalPair (pairOf (getD (set list len x) e 0)))) 0
       marked-more e he =
-          split (eqb (slotOf (normalPair (pairOf (getD (set list len x) e 0)))) slot)
+          split (eqb (pairSlot (normalPair (pairOf (getD (set list len x) e 0)))) slot)
           (λ q. omega (
             arith,
-            ap (λ (i : ℕ). getD (set marks slot (len + 1)) i 0) (eqb-true (slotOf (normalPair (pairOf (getD (set list len x) e 0)))) slot q),
+            ap (λ (i : ℕ). getD (set marks slot (len + 1)) i 0) (eqb-true (pairSlot (normalPair (pairOf (getD (set list len x) e 0)))) slot q),
             getD-set-same marks slot (len + 1) 0 (omega (arith, s .room)),
           ))
           (λ q. split (eqb e len)
-          (λ p. absurd (differ (slotOf (normalPair (pairOf (getD (set list len x) e 0)))) slot q
-          (ap (λ (i : ℕ). slotOf (normalPair (pairOf (getD (set list len x) i 0)))) (eqb-true e len p)
-          ∙ ap (λ (y : ℕ). slotOf (normalPair (pairOf y))) (getD-set-same list len x 0 room) ∙ sym es)))
+          (λ p. absurd (differ (pairSlot (normalPair (pairOf (getD (set list len x) e 0)))) slot q
+          (ap (λ (i : ℕ). pairSlot (normalPair (pairOf (getD (set list len x) i 0)))) (eqb-true e len p)
+          ∙ ap (λ (y : ℕ). pairSlot (normalPair (pairOf y))) (getD-set-same list len x 0 room) ∙ sym es)))
           (λ p. let o : getD (set list len x) e 0 ≡ getD list e 0 = getD-set-other list len e x 0 (differ e len p) in
           let lt : e < len = omega (arith, differ e len p) in
           omega (
             arith,
-            getD-set-other marks slot (slotOf (normalPair (pairOf (getD (set list len x) e 0)))) (len + 1) 0
-                (differ (slotOf (normalPair (pairOf (getD (set list len x) e 0)))) slot q),
-            ap (λ (y : ℕ). getD marks (slotOf (normalPair (pairOf y))) 0) o,
+            getD-set-other marks slot (pairSlot (normalPair (pairOf (getD (set list len x) e 0)))) (len + 1) 0
+                (differ (pairSlot (normalPair (pairOf (getD (set list len x) e 0)))) slot q),
+            ap (λ (y : ℕ). getD marks (pairSlot (normalPair (pairOf y))) 0) o,
             s .marked e lt,
           )))
 

@@ -11,7 +11,7 @@ use Rattle.matching.specs.Links.{linkNumber}
 use Rattle.fill.proofs.Counting.LinkPairs.{Links}
 use Rattle.network.specs.Levels.{putStored}
 use Rattle.swapping.specs.inner.Exchange.{putLinks}
-use Rattle.network.proofs.LinksRead.Stored.{outside-put, word-put, same-word}
+use Rattle.network.proofs.LinksRead.Stored.{outside-put, stored-put, same-stored}
 
 put-length : (work : List ℕ) (i x : ℕ) → length (putStored work i x) ≡ length work
 put-length work i x = length-set (set work i (x % 256)) (i + 1) (x / 256) ∙ length-set work i (x % 256)
@@ -31,7 +31,7 @@ put-there work i [] h = tt
 put-there work i (k ∷ ks) h =
     let w = putStored work i (linkNumber k) in
     let o = put-outside w (i + 2) ks in (
-      same-word w (putLinks w (i + 2) ks) i (o .under i (omega arith)) (o .under (i + 1) (omega arith))
-          ∙ word-put work i (linkNumber k) (omega arith),
+      same-stored w (putLinks w (i + 2) ks) i (o .under i (omega arith)) (o .under (i + 1) (omega arith))
+          ∙ stored-put work i (linkNumber k) (omega arith),
       put-there w (i + 2) ks (omega (arith, put-length work i (linkNumber k))),
     )

@@ -15,14 +15,14 @@ use Rattle.lists.proofs.Lists.Membership.{index-lt, getD-index, index-getD}
 use Rattle.lists.proofs.Lists.Grown.{take-more, has-append}
 use Rattle.diagram.specs.Exchanging.Exchange.{Pair, both, samePair, oppositePair, normalPair, sameClass}
 use Rattle.diagram.proofs.Exchanging.Pairs.{pair-equality, class-either}
-use Rattle.swapping.specs.inner.Exchange.{pairOf, pairsIn, slotOf, Seen}
+use Rattle.swapping.specs.inner.Exchange.{pairOf, pairsIn, pairSlot, Seen}
 
 -- a pair has one number
 number-back : (x y : ℕ) → pairOf x ≡ pairOf y → x ≡ y
 number-back x y e = omega (arith, ap (λ (f : Pair). f .low) e, ap (λ (f : Pair). f .high) e)
 
-pub slot-found : (c : ℕ) → (c % 65536 / 2 + 1021 * (c / 65536 + 65536 - c % 65536)) % 8192 ≡ slotOf (pairOf c)
-unfolding slotOf
+pub slot-found : (c : ℕ) → (c % 65536 / 2 + 1021 * (c / 65536 + 65536 - c % 65536)) % 8192 ≡ pairSlot (pairOf c)
+unfolding pairSlot
 slot-found c = refl
 
 -- the class of a pair is told by its normal pair
@@ -82,7 +82,7 @@ module _ (list : List ℕ) where
     found-none e = sym (index-none sameClass (pairOf x) (pairsIn len list) e ∙ pairs-length len fits)
 
     -- a slot with no mark has no entry of the class
-    pub found-unmarked : (marks : List ℕ) → Seen len list marks → (slot : ℕ) → slot ≡ slotOf (normalPair (pairOf x)) → getD marks slot 0 ≡ 0
+    pub found-unmarked : (marks : List ℕ) → Seen len list marks → (slot : ℕ) → slot ≡ pairSlot (normalPair (pairOf x)) → getD marks slot 0 ≡ 0
         → len ≡ K
     found-unmarked marks s slot es e =
         split (has sameClass (pairOf x) (pairsIn len list))
@@ -93,7 +93,7 @@ module _ (list : List ℕ) where
         let same : normalPair (pairOf (getD list i 0)) ≡ normalPair (pairOf x) =
         sym (class-at len i h)
         ∙ getD-index samePair pair-equality (normalPair (pairOf x)) (classesOf (pairsIn len list)) (normalPair (both 0)) t in
-        absurd (omega (arith, s .marked i h, ap (λ (f : Pair). getD marks (slotOf f) 0) same, ap (λ (k : ℕ). getD marks k 0) es, e)))
+        absurd (omega (arith, s .marked i h, ap (λ (f : Pair). getD marks (pairSlot f) 0) same, ap (λ (k : ℕ). getD marks k 0) es, e)))
         found-none
 
     -- no entry before number i is of the class, and number i isn't

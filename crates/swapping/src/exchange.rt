@@ -85,7 +85,7 @@ fn link_entry(
 }
 
 // Links the halves of the first e entries of level q, from byte `at` on; the next level's entries go to an empty list. Gives how many.
-fn link_level(
+fn link_pairs(
     cells: &[u16],
     p: usize,
     q: usize,
@@ -174,7 +174,7 @@ fn next_level(
         (linksFrom [] (halfPairs (lentAt (now (cells .entry))) p q (pairsIn e (now (seen .entry))))) ⌝ }
 {
     let mut marks = [0u16; SLOTS];
-    let len = link_level(cells, p, q, seen, e, list, &mut marks, work, at);
+    let len = link_pairs(cells, p, q, seen, e, list, &mut marks, work, at);
     copy_pairs(list, len, seen);
     len
 }

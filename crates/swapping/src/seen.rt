@@ -13,7 +13,7 @@ ghost use Rattle.lists.specs.Lists.{distinct, index};
 ghost use Rattle.diagram.specs.Exchanging.Exchange.{oppositePair, normalPair, sameClass, constantPair, entriesAfter, linkInto};
 ghost use Rattle.matching.specs.Links.{linkNumber};
 ghost use Rattle.network.specs.Levels.{storedLimit};
-ghost use Rattle.swapping.specs.inner.Exchange.{pairLimit, pairOf, pairsIn, slots, slotOf, Seen, Shows};
+ghost use Rattle.swapping.specs.inner.Exchange.{pairLimit, pairOf, pairsIn, slots, pairSlot, Seen, Shows};
 
 // How many slots there are; specs/inner/Exchange.antt has the definition, `slots`.
 pub(crate) const SLOTS: usize = 8192;
@@ -38,7 +38,7 @@ fn is_constant(x: usize) -> bool
 // The slot of a class.
 fn slot_of(c: usize) -> usize
     requires { ⌜ c < pairLimit ⌝ }
-    ensures { λ r. ⌜ (r ≡ slotOf (pairOf c)) × (r < slots) ⌝ }
+    ensures { λ r. ⌜ (r ≡ pairSlot (pairOf c)) × (r < slots) ⌝ }
 {
     let low = c % STORED;
     (low / 2 + 1021 * (c / STORED + STORED - low)) % SLOTS
@@ -88,7 +88,7 @@ fn search_entry(x: usize, o: usize, list: &[u32], len: usize) -> usize
 
 // The same, by the mark of the class's slot where that tells it.
 fn find_entry(x: usize, o: usize, slot: usize, list: &[u32], len: usize, marks: &[u16]) -> usize
-    requires { ⌜ (pairOf o ≡ oppositePair true (pairOf x)) × (slot ≡ slotOf (normalPair (pairOf x))) × Seen len (now list) (now marks) ⌝ }
+    requires { ⌜ (pairOf o ≡ oppositePair true (pairOf x)) × (slot ≡ pairSlot (normalPair (pairOf x))) × Seen len (now list) (now marks) ⌝ }
     ensures { λ r. ⌜ r ≡ index sameClass (pairOf x) (pairsIn len (now (list .entry))) ⌝ }
 {
     let mark = lent_number(marks, slot);

@@ -1,6 +1,6 @@
 // Swapping two neighbouring levels in the held cells, with no table and no filling (document 02, 2.7).
 use crate::exchange::exchanged_links;
-use canonical::canonical::canonical_answer;
+use canonical::held::test_held;
 use fill::WORK;
 use fill::clear;
 use lent::ROOTS;
@@ -43,7 +43,7 @@ fn swap_checks(state: State, p: usize, work: &[u8], roots: &[u16], cells: &[u16]
     if !is_done(place) {
         return place;
     }
-    canonical_answer(state, roots, cells)
+    test_held(state, roots, cells)
 }
 
 // Swaps where the checks are passed. Refuses with 23 and the cells wanted.

@@ -2,9 +2,9 @@
 use crate::line::put_order;
 use crate::put::NEWLINE;
 use crate::put::put_byte;
+use crate::put::put_keyword;
 use crate::put::put_line;
 use crate::put::put_number;
-use crate::put::put_word;
 use block::numbers::lent_number;
 use table::State;
 use table::valid::holds_network;
@@ -29,7 +29,7 @@ fn put_cell(out: &mut [u8], at: usize, cells: &[u16], i: usize) -> usize
     requires { ⌜ (at ≤ length (now out)) × (i < length (now cells)) ⌝ }
     ensures { λ r. ⌜ Written (now (out .entry)) (now (out .exit)) at r (cellLine (now (cells .entry)) i) ⌝ }
 {
-    let number = put_word(out, at, b"cell");
+    let number = put_keyword(out, at, b"cell");
     let node = put_number(out, number, i + 1);
     put_node(out, node, cells, i)
 }
@@ -58,7 +58,7 @@ fn put_root(out: &mut [u8], at: usize, roots: &[u16], j: usize) -> usize
     requires { ⌜ at ≤ length (now out) ⌝ }
     ensures { λ r. ⌜ Written (now (out .entry)) (now (out .exit)) at r (rootLine (now (roots .entry)) j) ⌝ }
 {
-    let output = put_word(out, at, b"root");
+    let output = put_keyword(out, at, b"root");
     let root = put_number(out, output, j);
     let end = put_number(out, root, lent_number(roots, j));
     put_byte(out, end, NEWLINE)

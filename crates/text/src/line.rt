@@ -1,9 +1,9 @@
 // The lines of a network's text other than its cells and roots: a word and a number, an order.
 use crate::put::NEWLINE;
 use crate::put::put_byte;
+use crate::put::put_keyword;
 use crate::put::put_line;
 use crate::put::put_number;
-use crate::put::put_word;
 use diagram::VARIABLES;
 use table::State;
 ghost use Prim.Native.Nat.{_≤_, min};
@@ -47,7 +47,7 @@ pub(crate) fn put_order(out: &mut [u8], at: usize, state: State) -> usize
     ensures { λ r. ⌜ Written (now (out .entry)) (now (out .exit)) at r (stateOrder state) ⌝ }
 {
     let order = state.order;
-    let entries = put_word(out, at, b"order");
+    let entries = put_keyword(out, at, b"order");
     let end = put_entries(out, entries, entries_of(state.n), order);
     put_byte(out, end, NEWLINE)
 }

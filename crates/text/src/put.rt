@@ -26,7 +26,7 @@ pub(crate) fn put_byte(out: &mut [u8], at: usize, byte: u8) -> usize
 }
 
 // The bytes of a word.
-pub(crate) fn put_word(out: &mut [u8], at: usize, word: &[u8]) -> usize
+pub(crate) fn put_keyword(out: &mut [u8], at: usize, word: &[u8]) -> usize
     requires { ⌜ at ≤ length (now out) ⌝ }
     ensures { λ r. ⌜ Written (now (out .entry)) (now (out .exit)) at r (now (word .entry)) ⌝ }
 {
@@ -69,7 +69,7 @@ pub(crate) fn put_line(out: &mut [u8], at: usize, word: &[u8], x: usize) -> usiz
     requires { ⌜ at ≤ length (now out) ⌝ }
     ensures { λ r. ⌜ Written (now (out .entry)) (now (out .exit)) at r (line (now (word .entry)) x) ⌝ }
 {
-    let number = put_word(out, at, word);
+    let number = put_keyword(out, at, word);
     let end = put_number(out, number, x);
     put_byte(out, end, NEWLINE)
 }

@@ -12,7 +12,7 @@ use Rattle.table.specs.declared.State.{State}
 use Rattle.table.specs.Answer.{number, value}
 use Rattle.table.proofs.Variants.{done-value}
 use Rattle.yavdocsil.specs.Words.{valueLimit, answerWord, stateFrom, withState}
-use Rattle.yavdocsil.specs.Called.{settled, success}
+use Rattle.yavdocsil.specs.Called.{wordsAfter, success}
 
 -- an answer below 2³² is a success
 module _ (a : Answer) (r : ℕ) (e : r ≡ answerWord a) where
@@ -38,10 +38,10 @@ read-off o r e h words s =
 
 -- only a success is written
 module _ (o : Outcome) (words : List ℕ) (x : ℕ) (e : x ≡ number (o .answer)) where
-  pub settled-refused : (x ≡ 0 → ⊥) → words ≡ settled o words
-  unfolding settled
+  pub settled-refused : (x ≡ 0 → ⊥) → words ≡ wordsAfter o words
+  unfolding wordsAfter
   settled-refused d = rw (ne-eqb (number (o .answer)) 0 (λ z. d (e ∙ z)))
 
-  pub settled-done : x ≡ 0 → (after : List ℕ) → after ≡ withState (o .state) words → after ≡ settled o words
-  unfolding settled
+  pub settled-done : x ≡ 0 → (after : List ℕ) → after ≡ withState (o .state) words → after ≡ wordsAfter o words
+  unfolding wordsAfter
   settled-done d after a = rw (eq-eqb (number (o .answer)) 0 (sym e ∙ d)) a

@@ -16,13 +16,13 @@ use Rattle.table.specs.declared.Outcome.{Outcome}
 use Rattle.table.specs.declared.State.{State}
 use Rattle.table.specs.Answer.{number, value, done}
 use Rattle.yavdocsil.specs.Words.{stateWords, valueLimit, stateFrom, answerWord}
-use Rattle.yavdocsil.specs.Called.{isState, answered, leaves}
+use Rattle.yavdocsil.specs.Called.{isState, answerTo, leaves}
 use Rattle.yavdocsil.proofs.AnswerWords.{word-done, word-number}
 
 -- too few words
 module _ (words : List ℕ) (h : length words < stateWords) where
-  pub short-answer : (call : State → Answer) (r : ℕ) → r ≡ answerWord ShortBuffer → r ≡ answered words call
-  unfolding answered
+  pub short-answer : (call : State → Answer) (r : ℕ) → r ≡ answerWord ShortBuffer → r ≡ answerTo words call
+  unfolding answerTo
   short-answer call r e = rw (lt-leb stateWords (length words) h) e
 
   pub short-leaves : {A : Type 0} (call : State → A) (buffer : A) → buffer ≡ leaves words call buffer
@@ -39,8 +39,8 @@ module _ (words : List ℕ) (h : length words < stateWords) where
 
 -- enough words
 module _ (words : List ℕ) (h : stateWords ≤ length words) (s : State) (e : s ≡ stateFrom words) where
-  pub called-answer : (call : State → Answer) (r : ℕ) (a : Answer) → r ≡ answerWord a → a ≡ call s → r ≡ answered words call
-  unfolding answered
+  pub called-answer : (call : State → Answer) (r : ℕ) (a : Answer) → r ≡ answerWord a → a ≡ call s → r ≡ answerTo words call
+  unfolding answerTo
   called-answer call r a f g = rw (le-leb stateWords (length words) h) (f ∙ ap answerWord (g ∙ ap call e))
 
   pub called-leaves : {A : Type 0} (call : State → A) (after buffer : A) → after ≡ call s → after ≡ leaves words call buffer

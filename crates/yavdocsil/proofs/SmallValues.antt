@@ -46,10 +46,10 @@ use Rattle.network.specs.Build.{wanted, capacity, longEnough, buildAnswer, buil
 use Rattle.swapping.specs.Swap.{cellTable, exchangedOrder, swappedCount, swapChecks, swapCellsAnswer, swapCellsOutcome}
 use Rattle.network.proofs.Building.HeldRead.{few-nodes, few-wanted}
 use Rattle.canonical.specs.Canonical.{canonicalAnswer}
-use Rattle.cellfile.specs.File.{countAt, rootsAt, fileCount, fileDiagram, cellBlocks, carriedNumbers}
-use Rattle.cellfile.specs.File.{unusedHeading, networkHeading, cellsBlock, cellsAnswer, networkFileAnswer}
-use Rattle.cellfile.specs.Read.{readAnswer, readOutcome}
-use Rattle.cellfile.specs.Write.{fileSize, writeAnswer}
+use Rattle.network_file.specs.File.{countAt, rootsAt, fileCount, fileDiagram, cellBlocks, carriedNumbers}
+use Rattle.network_file.specs.File.{unusedHeading, networkHeading, cellsBlock, cellsAnswer, networkFileAnswer}
+use Rattle.network_file.specs.Read.{readAnswer, readOutcome}
+use Rattle.network_file.specs.Write.{fileSize, writeAnswer}
 use Rattle.rowlog.specs.Log.{mostRecords, recordsOf, logAnswer, logOutcome}
 use Rattle.sift.specs.Calls.{siftedOrder, siftAnswer, siftOutcome, passOf, passAnswer, passOutcome}
 use Rattle.sift.specs.Moves.{movesAnswer}

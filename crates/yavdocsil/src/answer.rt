@@ -9,7 +9,7 @@ ghost use Prim.Native.Nat.{_<_, _≤_};
 ghost use lib.ListN.{length};
 ghost use Rattle.table.specs.Answer.{value};
 ghost use Rattle.yavdocsil.specs.Words.{stateWords, valueLimit, answerWord};
-ghost use Rattle.yavdocsil.specs.Called.{settled, success};
+ghost use Rattle.yavdocsil.specs.Called.{wordsAfter, success};
 
 // Answers' numbers stand above their values, which are below this; specs/Words.antt has the definition, `valueLimit`.
 const VALUES: usize = 4294967296;
@@ -26,7 +26,7 @@ pub(crate) fn answer_word(answer: Answer) -> u64
 pub(crate) fn settle(outcome: Outcome, words: &mut [u64]) -> u64
     requires { ⌜ (stateWords ≤ length (now words)) × (value (outcome .answer) < valueLimit) ⌝ }
     ensures answer { λ r. ⌜ r ≡ answerWord (outcome .answer) ⌝ }
-    ensures words { λ _. ⌜ now (words .exit) ≡ settled outcome (now (words .entry)) ⌝ }
+    ensures words { λ _. ⌜ now (words .exit) ≡ wordsAfter outcome (now (words .entry)) ⌝ }
     ensures success { λ r. ⌜ (r < valueLimit → success r (now (words .exit)) ≡ outcome) ⌝ }
 {
     let answer = outcome.answer;

@@ -16,13 +16,13 @@ ghost use Rattle.fill.specs.Calls.{heldTable, countAnswer, countWork};
 ghost use Rattle.lent.specs.Lent.{lentDiagram};
 ghost use Rattle.network.specs.Build.{capacity, reachesBoard, buildOutcome, buildRoots, buildCells, buildWork, Built};
 ghost use Rattle.yavdocsil.specs.Words.{valueLimit, stateFrom};
-ghost use Rattle.yavdocsil.specs.Called.{isState, answered, leaves, settled, success};
+ghost use Rattle.yavdocsil.specs.Called.{isState, answerTo, leaves, wordsAfter, success};
 
 // The nodes that the held table's network takes.
 #[no_mangle]
 pub extern "C" fn yav_count(words: &[u64], values: &[u8], care: &[u8], work: &mut [u8]) -> u64
     ensures answer { λ r.
-        ⌜ r ≡ answered (now (words .entry)) (λ s. countAnswer s (now (values .entry)) (now (care .entry)) (now (work .entry))) ⌝ }
+        ⌜ r ≡ answerTo (now (words .entry)) (λ s. countAnswer s (now (values .entry)) (now (care .entry)) (now (work .entry))) ⌝ }
     ensures work { λ _.
         ⌜ now (work .exit)
         ≡ leaves (now (words .entry)) (λ s. countWork s (now (values .entry)) (now (care .entry)) (now (work .entry)))
@@ -45,13 +45,13 @@ pub extern "C" fn yav_build(
     cells: &mut [u16],
 ) -> u64
     ensures answer { λ r.
-        ⌜ r ≡ answered (now (words .entry))
+        ⌜ r ≡ answerTo (now (words .entry))
         (λ s. buildOutcome s (now (values .entry)) (now (care .entry)) (now (work .entry)) (now (roots .entry)) (now (cells .entry))
         .answer) ⌝ }
     ensures words { λ _.
         ⌜ now (words .exit)
         ≡ leaves (now (words .entry))
-        (λ s. settled
+        (λ s. wordsAfter
         (buildOutcome s (now (values .entry)) (now (care .entry)) (now (work .entry)) (now (roots .entry)) (now (cells .entry)))
         (now (words .entry)))
         (now (words .entry)) ⌝ }

@@ -3,17 +3,17 @@ use crate::answer::answer_word;
 use crate::answer::settle;
 use crate::state::WORDS;
 use crate::state::read_state;
-use cellfile::read::read_cells;
-use cellfile::write::write_cells;
+use network_file::read::read_cells;
+use network_file::write::write_cells;
 use table::Answer;
 ghost use mathlib.Core.Path.{_≡_};
 ghost use Prim.Native.Nat.{_<_};
 ghost use Rattle.lent.specs.Lent.{lentDiagram};
 ghost use Rattle.network.specs.Build.{capacity};
-ghost use Rattle.cellfile.specs.Write.{writeAnswer, writeWork, writtenFile};
-ghost use Rattle.cellfile.specs.Read.{readOutcome, readValues, readCare, readWork, readRoots, readCells, Given};
+ghost use Rattle.network_file.specs.Write.{writeAnswer, writeWork, writtenFile};
+ghost use Rattle.network_file.specs.Read.{readOutcome, readValues, readCare, readWork, readRoots, readCells, Given};
 ghost use Rattle.yavdocsil.specs.Words.{valueLimit, stateFrom};
-ghost use Rattle.yavdocsil.specs.Called.{answered, leaves, settled};
+ghost use Rattle.yavdocsil.specs.Called.{answerTo, leaves, wordsAfter};
 
 // Writes the network file of the held network.
 #[no_mangle]
@@ -25,7 +25,7 @@ pub extern "C" fn yav_write_cells(
     file: &mut [u8],
 ) -> u64
     ensures answer { λ r.
-        ⌜ r ≡ answered (now (words .entry))
+        ⌜ r ≡ answerTo (now (words .entry))
         (λ s. writeAnswer s (now (roots .entry)) (now (cells .entry)) (now (work .entry)) (now (file .entry))) ⌝ }
     ensures work { λ _.
         ⌜ now (work .exit)
@@ -44,7 +44,7 @@ pub extern "C" fn yav_write_cells(
     answer_word(write_cells(read_state(words), roots, cells, work, file))
 }
 
-// Reads a network file into roots and cells, and the table that they compute into values and care. What `cellfile::read` owes of its
+// Reads a network file into roots and cells, and the table that they compute into values and care. What `network_file::read` owes of its
 // outcome, this owes of the answer and the words.
 #[no_mangle]
 pub extern "C" fn yav_read_cells(
@@ -57,13 +57,13 @@ pub extern "C" fn yav_read_cells(
     cells: &mut [u16],
 ) -> u64
     ensures answer { λ r.
-        ⌜ r ≡ answered (now (words .entry))
+        ⌜ r ≡ answerTo (now (words .entry))
         (λ s. readOutcome s (now (file .entry)) (now (values .entry)) (now (care .entry)) (now (work .entry)) (now (roots .entry))
         (now (cells .entry)) .answer) ⌝ }
     ensures words { λ _.
         ⌜ now (words .exit)
         ≡ leaves (now (words .entry))
-        (λ s. settled
+        (λ s. wordsAfter
         (readOutcome s (now (file .entry)) (now (values .entry)) (now (care .entry)) (now (work .entry)) (now (roots .entry))
         (now (cells .entry)))
         (now (words .entry)))

@@ -10,12 +10,12 @@ ghost use Prim.Native.Nat.{_<_};
 ghost use Rattle.lent.specs.Evaluate.{evaluateAnswer};
 ghost use Rattle.lent.specs.Rows.{rowsAnswer, rowsAnswers, EachAlone};
 ghost use Rattle.yavdocsil.specs.Words.{valueLimit, stateFrom};
-ghost use Rattle.yavdocsil.specs.Called.{answered, leaves};
+ghost use Rattle.yavdocsil.specs.Called.{answerTo, leaves};
 
 // The outputs that the lent network gives at a row, bit j output j.
 #[no_mangle]
 pub extern "C" fn yav_evaluate(words: &[u64], row: u64, roots: &[u16], cells: &[u16]) -> u64
-    ensures { λ r. ⌜ r ≡ answered (now (words .entry)) (λ s. evaluateAnswer s row (now (roots .entry)) (now (cells .entry))) ⌝ }
+    ensures { λ r. ⌜ r ≡ answerTo (now (words .entry)) (λ s. evaluateAnswer s row (now (roots .entry)) (now (cells .entry))) ⌝ }
 {
     if words.len() < WORDS {
         return answer_word(Answer::ShortBuffer);
@@ -33,7 +33,7 @@ pub extern "C" fn yav_evaluate_rows(
     cells: &[u16],
 ) -> u64
     ensures answer { λ r.
-        ⌜ r ≡ answered (now (words .entry))
+        ⌜ r ≡ answerTo (now (words .entry))
         (λ s. rowsAnswer s (now (rows .entry)) (now (answers .entry)) (now (roots .entry)) (now (cells .entry))) ⌝ }
     ensures answers { λ _.
         ⌜ now (answers .exit)

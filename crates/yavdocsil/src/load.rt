@@ -8,7 +8,7 @@ use table::cared::cared;
 use table::load::load;
 ghost use mathlib.Core.Path.{_≡_};
 ghost use Rattle.table.specs.Calls.{loadOutcome, loadValues, loadCare, caredAnswer};
-ghost use Rattle.yavdocsil.specs.Called.{answered, leaves, settled};
+ghost use Rattle.yavdocsil.specs.Called.{answerTo, leaves, wordsAfter};
 
 // Loads a table file into values and care.
 #[no_mangle]
@@ -19,12 +19,12 @@ pub extern "C" fn yav_load(
     care: &mut [u8],
 ) -> u64
     ensures answer { λ r.
-        ⌜ r ≡ answered (now (words .entry))
+        ⌜ r ≡ answerTo (now (words .entry))
         (λ s. loadOutcome s (now (file .entry)) (now (values .entry)) (now (care .entry)) .answer) ⌝ }
     ensures words { λ _.
         ⌜ now (words .exit)
         ≡ leaves (now (words .entry))
-        (λ s. settled (loadOutcome s (now (file .entry)) (now (values .entry)) (now (care .entry))) (now (words .entry)))
+        (λ s. wordsAfter (loadOutcome s (now (file .entry)) (now (values .entry)) (now (care .entry))) (now (words .entry)))
         (now (words .entry)) ⌝ }
     ensures values { λ _.
         ⌜ now (values .exit)
@@ -45,7 +45,7 @@ pub extern "C" fn yav_load(
 // The number of cared bits in the held table's stream.
 #[no_mangle]
 pub extern "C" fn yav_cared(words: &[u64], care: &[u8]) -> u64
-    ensures { λ r. ⌜ r ≡ answered (now (words .entry)) (λ s. caredAnswer s (now (care .entry))) ⌝ }
+    ensures { λ r. ⌜ r ≡ answerTo (now (words .entry)) (λ s. caredAnswer s (now (care .entry))) ⌝ }
 {
     if words.len() < WORDS {
         return answer_word(Answer::ShortBuffer);

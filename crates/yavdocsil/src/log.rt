@@ -7,7 +7,7 @@ use rowlog::log::log_rows;
 use table::Answer;
 ghost use mathlib.Core.Path.{_≡_};
 ghost use Rattle.rowlog.specs.Log.{logOutcome, logCounts, logCare};
-ghost use Rattle.yavdocsil.specs.Called.{answered, leaves, settled};
+ghost use Rattle.yavdocsil.specs.Called.{answerTo, leaves, wordsAfter};
 
 // Counts each row of a list, and cares for every row counted `least` times or more.
 #[no_mangle]
@@ -19,12 +19,12 @@ pub extern "C" fn yav_log_rows(
     care: &mut [u8],
 ) -> u64
     ensures answer { λ r.
-        ⌜ r ≡ answered (now (words .entry))
+        ⌜ r ≡ answerTo (now (words .entry))
         (λ s. logOutcome s (now (rows .entry)) (now (counts .entry)) (now (care .entry)) .answer) ⌝ }
     ensures words { λ _.
         ⌜ now (words .exit)
         ≡ leaves (now (words .entry))
-        (λ s. settled (logOutcome s (now (rows .entry)) (now (counts .entry)) (now (care .entry))) (now (words .entry)))
+        (λ s. wordsAfter (logOutcome s (now (rows .entry)) (now (counts .entry)) (now (care .entry))) (now (words .entry)))
         (now (words .entry)) ⌝ }
     ensures counts { λ _.
         ⌜ now (counts .exit)

@@ -8,7 +8,7 @@ ghost use mathlib.Core.Path.{_≡_};
 ghost use Prim.Native.Nat.{_<_};
 ghost use Rattle.sift.specs.Moves.{movesAnswer, movesGains, movesWork, Reported};
 ghost use Rattle.yavdocsil.specs.Words.{valueLimit, stateFrom};
-ghost use Rattle.yavdocsil.specs.Called.{answered, leaves};
+ghost use Rattle.yavdocsil.specs.Called.{answerTo, leaves};
 
 // Reports the nodes with each variable at each level minus the nodes now. What `sift::moves` owes of its list, this owes of it too.
 #[no_mangle]
@@ -20,7 +20,7 @@ pub extern "C" fn yav_moves(
     work: &mut [u8],
 ) -> u64
     ensures answer { λ r.
-        ⌜ r ≡ answered (now (words .entry))
+        ⌜ r ≡ answerTo (now (words .entry))
         (λ s. movesAnswer s (now (gains .entry)) (now (values .entry)) (now (care .entry)) (now (work .entry))) ⌝ }
     ensures gains { λ _.
         ⌜ now (gains .exit)

@@ -12,15 +12,15 @@ ghost use Prim.Native.Nat.{_<_};
 ghost use Rattle.table.specs.Calls.{swapOutcome};
 ghost use Rattle.sift.specs.Calls.{siftOutcome, siftWork, SiftDemand, passOutcome, passWork, PassDemand};
 ghost use Rattle.yavdocsil.specs.Words.{valueLimit, stateFrom};
-ghost use Rattle.yavdocsil.specs.Called.{answered, leaves, settled, success};
+ghost use Rattle.yavdocsil.specs.Called.{answerTo, leaves, wordsAfter, success};
 
 // Exchanges levels `level` and `level` + 1 of the order.
 #[no_mangle]
 pub extern "C" fn yav_swap(words: &mut [u64], level: u64) -> u64
-    ensures answer { λ r. ⌜ r ≡ answered (now (words .entry)) (λ s. swapOutcome s level .answer) ⌝ }
+    ensures answer { λ r. ⌜ r ≡ answerTo (now (words .entry)) (λ s. swapOutcome s level .answer) ⌝ }
     ensures words { λ _.
         ⌜ now (words .exit)
-        ≡ leaves (now (words .entry)) (λ s. settled (swapOutcome s level) (now (words .entry))) (now (words .entry)) ⌝ }
+        ≡ leaves (now (words .entry)) (λ s. wordsAfter (swapOutcome s level) (now (words .entry))) (now (words .entry)) ⌝ }
 {
     if words.len() < WORDS {
         return answer_word(Answer::ShortBuffer);
@@ -39,12 +39,12 @@ pub extern "C" fn yav_sift(
     work: &mut [u8],
 ) -> u64
     ensures answer { λ r.
-        ⌜ r ≡ answered (now (words .entry))
+        ⌜ r ≡ answerTo (now (words .entry))
         (λ s. siftOutcome s variable (now (values .entry)) (now (care .entry)) (now (work .entry)) .answer) ⌝ }
     ensures words { λ _.
         ⌜ now (words .exit)
         ≡ leaves (now (words .entry))
-        (λ s. settled (siftOutcome s variable (now (values .entry)) (now (care .entry)) (now (work .entry))) (now (words .entry)))
+        (λ s. wordsAfter (siftOutcome s variable (now (values .entry)) (now (care .entry)) (now (work .entry))) (now (words .entry)))
         (now (words .entry)) ⌝ }
     ensures work { λ _.
         ⌜ now (work .exit)
@@ -70,12 +70,12 @@ pub extern "C" fn yav_pass(
     work: &mut [u8],
 ) -> u64
     ensures answer { λ r.
-        ⌜ r ≡ answered (now (words .entry))
+        ⌜ r ≡ answerTo (now (words .entry))
         (λ s. passOutcome s limit (now (values .entry)) (now (care .entry)) (now (work .entry)) .answer) ⌝ }
     ensures words { λ _.
         ⌜ now (words .exit)
         ≡ leaves (now (words .entry))
-        (λ s. settled (passOutcome s limit (now (values .entry)) (now (care .entry)) (now (work .entry))) (now (words .entry)))
+        (λ s. wordsAfter (passOutcome s limit (now (values .entry)) (now (care .entry)) (now (work .entry))) (now (words .entry)))
         (now (words .entry)) ⌝ }
     ensures work { λ _.
         ⌜ now (work .exit)

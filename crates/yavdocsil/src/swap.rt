@@ -15,7 +15,7 @@ ghost use Rattle.network.specs.Build.{capacity};
 ghost use Rattle.swapping.specs.Swap.{cellTable, exchangedOrder, reachesSwap, swapCellsOutcome, swapCellsRoots, swapCellsCells};
 ghost use Rattle.swapping.specs.Swap.{swapCellsWork, Swapped};
 ghost use Rattle.yavdocsil.specs.Words.{valueLimit, stateFrom};
-ghost use Rattle.yavdocsil.specs.Called.{isState, answered, leaves, settled, success};
+ghost use Rattle.yavdocsil.specs.Called.{isState, answerTo, leaves, wordsAfter, success};
 
 // Exchanges levels `level` and `level` + 1 in the held cells. What `swap_cells` owes of its outcome, this owes of the answer and the words.
 #[no_mangle]
@@ -27,12 +27,12 @@ pub extern "C" fn yav_swap_cells(
     cells: &mut [u16],
 ) -> u64
     ensures answer { λ r.
-        ⌜ r ≡ answered (now (words .entry))
+        ⌜ r ≡ answerTo (now (words .entry))
         (λ s. swapCellsOutcome s level (now (work .entry)) (now (roots .entry)) (now (cells .entry)) .answer) ⌝ }
     ensures words { λ _.
         ⌜ now (words .exit)
         ≡ leaves (now (words .entry))
-        (λ s. settled (swapCellsOutcome s level (now (work .entry)) (now (roots .entry)) (now (cells .entry))) (now (words .entry)))
+        (λ s. wordsAfter (swapCellsOutcome s level (now (work .entry)) (now (roots .entry)) (now (cells .entry))) (now (words .entry)))
         (now (words .entry)) ⌝ }
     ensures work { λ _.
         ⌜ now (work .exit)

@@ -27,10 +27,10 @@ abbrev pub slots : ℕ
 slots = 65536
 
 -- a slot of a node, by its numbers: nodes in different slots differ
-unfoldable pub slotOf : Node → ℕ
-slotOf c = (c .level + 31 * c .low + 1021 * c .high) % slots
+unfoldable pub nodeSlot : Node → ℕ
+nodeSlot c = (c .level + 31 * c .low + 1021 * c .high) % slots
 
 -- the slots of the first i nodes are marked
 pub record Slotted (cells : List ℕ) (i : ℕ) (marks : List ℕ) : Type 0 where
   pub room : length marks ≡ slots
-  pub marked : (j : ℕ) → j < i → getD marks (slotOf (lentNode cells j)) 0 ≡ 1
+  pub marked : (j : ℕ) → j < i → getD marks (nodeSlot (lentNode cells j)) 0 ≡ 1

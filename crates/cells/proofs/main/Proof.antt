@@ -16,18 +16,18 @@ read-full-requires c κs = search needs
 array-share-prefix-file : tie.Need-array-share-prefix-file
 array-share-prefix-file c = search needs
 
-slice-aggregate-write-table : tie.Need-slice-aggregate-write-table
-slice-aggregate-write-table c = search needs
+slice-aggregate-write-network-file : tie.Need-slice-aggregate-write-network-file
+slice-aggregate-write-network-file c = search needs
 
-write-table-requires : tie.Need-write-table-requires
-write-table-requires c κs = search needs
+write-network-file-requires : tie.Need-write-network-file-requires
+write-network-file-requires c κs = search needs
 
 array-share-prefix-out : tie.Need-array-share-prefix-out
-array-share-prefix-out c = whole-room (c .write-table .ensures .0)
+array-share-prefix-out c = whole-room (c .write-network-file .ensures .0)
 
 slice-aggregate-write-all : tie.Need-slice-aggregate-write-all
 slice-aggregate-write-all c =
-    let p = c .before .write-table in
+    let p = c .before .write-network-file in
     sym (length-take-le (p .result) (p .last .1 .1 .1 .1 .1 .1 .0) (whole-room (p .ensures .0)))
 
 write-all-requires : tie.Need-write-all-requires
@@ -43,8 +43,8 @@ main-spec =
     slice-aggregate-read-full
     read-full-requires
     array-share-prefix-file
-    slice-aggregate-write-table
-    write-table-requires
+    slice-aggregate-write-network-file
+    write-network-file-requires
     array-share-prefix-out
     slice-aggregate-write-all
     write-all-requires

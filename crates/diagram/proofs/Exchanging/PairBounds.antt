@@ -4,11 +4,10 @@
 use mathlib.Core.Path.{_≡_, refl, sym, ap, _∙_, subst}
 use mathlib.Core.Bool.{Bool, true, false, cond}
 use mathlib.Core.List.{List, [], _∷_, map}
-use Prim.Native.Nat.{ℕ, zero, suc, _*_, _≤_, _<_}
-use native.Mathlib.Nat.{le-of-suc-le-suc, not-suc-le-zero}
+use Prim.Native.Nat.{ℕ, zero, suc, _*_, _≤_}
 use native.Mathlib.Omega.{arith}
 use lib.Dec.{T, eqb, ltb, leb→le, le→leb, ltb→lt}
-use lib.ListN.{length, getD}
+use lib.ListN.{length}
 use Rattle.lists.specs.Lists.{all}
 use Rattle.lists.proofs.Bools.{split, to-T, and-l, and-r}
 use Rattle.diagram.specs.Networks.Diagram.{Node, Diagram, edge, inverts, largest, nodeAt, refers, wellFormed, opposite}
@@ -78,20 +77,10 @@ roots-own D (r ∷ rs) t =
     let h = leb→le r (largest true (length (D .nodes))) (and-l (refers true D r) (all (refers true D) rs) t) in
     ((h, h), roots-own D rs (and-r (refers true D r) (all (refers true D) rs) t))
 
-every-getD : {A : Type 0} (P : A → Type 0) (xs : List A) (i : ℕ) (x : A) → Every P xs → i < length xs → P (getD xs i x)
-every-getD P [] i x e h = absurd (not-suc-le-zero h)
-every-getD P (y ∷ ys) zero x e h = e .0
-every-getD P (y ∷ ys) (suc i) x e h = every-getD P ys i x (e .1) (le-of-suc-le-suc h)
-
 module _ (n m p : ℕ) (D : Diagram) (w : T (wellFormed true n m D)) (q : ℕ) where
   pub pairs-own : Every (Own D) (levelPairs (nodeAt true D) p (map both (D .roots)) q)
   pairs-own =
       levels-own n D (formed-nodes true n m D w) p (map both (D .roots)) (roots-own D (D .roots) (formed-roots true n m D w)) q
-
-  -- by index
-  pub pair-own : (i : ℕ) (f : Pair) → i < length (levelPairs (nodeAt true D) p (map both (D .roots)) q)
-      → Own D (getD (levelPairs (nodeAt true D) p (map both (D .roots)) q) i f)
-  pair-own i f h = every-getD (Own D) (levelPairs (nodeAt true D) p (map both (D .roots)) q) i f pairs-own h
 
 -- lengths
 

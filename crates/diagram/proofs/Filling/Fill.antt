@@ -1,19 +1,17 @@
 -- Basic laws of the filling: its equations, what one candidate does to the entries, lengths, pairs and halves, and the links.
 -- Assumes nothing.
-use mathlib.Core.Path.{_≡_, refl, sym, ap, ap₂, _∙_, subst}
+use mathlib.Core.Path.{_≡_, refl, sym, ap, _∙_, subst}
 use mathlib.Core.Bool.{Bool, true, false, not, _&&_, _||_}
 use mathlib.Core.List.{List, [], _∷_, map}
-use Prim.Native.Nat.{ℕ, zero, suc, _+_, _*_, _≤_, _<_, suc-le-suc, zero-le}
-use native.Mathlib.Nat.{le-refl, le-trans, zero-add, add-zero}
+use Prim.Native.Nat.{ℕ, zero, suc, _+_, _*_}
+use native.Mathlib.Nat.{zero-add, add-zero}
 use native.Mathlib.Omega.{arith}
-use lib.Dec.{T, ltb, lt→ltb}
+use lib.Dec.{T}
 use lib.ListN.{length, length-map}
-use Rattle.lists.specs.Lists.{all}
-use Rattle.lists.proofs.Bools.{split, to-T, and-T, and-l, and-r}
+use Rattle.lists.proofs.Bools.{split, to-T, and-l, and-r}
 use Rattle.diagram.specs.Tree.{Tree, halves, pairs}
 use Rattle.diagram.specs.Filling.Fill.{Row, always, agree, merge, Link, const, entry, along, candidate, level}
 use Rattle.diagram.specs.Filling.Fill.{follow, settled, fill, linksUnder, trace}
-use Rattle.diagram.proofs.Tree.{node-halves}
 use Rattle.diagram.proofs.Filling.Evened.{nextOf, length-next, next-entries, next-links, next-fill}
 
 -- the equations, by the next level's candidates two an entry
@@ -100,10 +98,6 @@ fill-length inv (suc d) fs = rw fill-suc (length-map (level inv [] fs .links) _ 
 
 -- pairs and halves
 
-pub pairs-halves : {A : Type 0} {d : ℕ} (ts : List (Tree A (suc d))) → pairs (halves ts) ≡ ts
-pairs-halves [] = refl
-pairs-halves (t ∷ ts) = ap₂ (λ x (l : List (Tree _ _)). x ∷ l) (sym (node-halves t)) (pairs-halves ts)
-
 pub halves-pairs : {A : Type 0} {d : ℕ} (k : ℕ) (ts : List (Tree A d)) → length ts ≡ 2 * k
     → (halves (pairs ts) ≡ ts) × (length (pairs ts) ≡ k)
 halves-pairs k [] e = (refl, omega arith)
@@ -123,40 +117,3 @@ module _ (inv : Bool) {d : ℕ} (es : List (Tree Row (suc d))) where
 
   pub filled-length : length (pairs (fill inv d (nextOf es))) ≡ length es
   filled-length = halves-pairs (length es) (fill inv d (nextOf es)) even .1
-
--- the links
-
--- a constant, or an entry's number below m, inverted only where that is allowed
-abbrev pub linkBelow : Bool → ℕ → Link → Bool
-linkBelow inv m (const v) = true
-linkBelow inv m (entry k i) = ltb k m && (not i || inv)
-
-pub along-below : {d : ℕ} {inv : Bool} {f : Tree Row d} {gs es : List (Tree Row d)} {k : ℕ} {i : Bool} → Along inv f gs k i es →
-    (k < length es) × T (not i || inv) × (length gs ≤ length es)
-along-below new = (suc-le-suc zero-le, tt, zero-le)
-along-below (met i t a) = (suc-le-suc zero-le, t, le-refl _)
-along-below (next n r) = let q = along-below r in (suc-le-suc (q .0), q .1, suc-le-suc (q .2))
-
-joined-grows : {d : ℕ} {inv : Bool} {f : Tree Row d} {gs es : List (Tree Row d)} {l : Link} → Joined inv f gs l es
-    → length gs ≤ length es
-joined-grows (fixed v t) = le-refl _
-joined-grows (linked n r) = along-below r .2
-
-joined-below : {d : ℕ} {inv : Bool} {f : Tree Row d} {gs es : List (Tree Row d)} {l : Link} → Joined inv f gs l es →
-    (m : ℕ) → length es ≤ m → T (linkBelow inv m l)
-joined-below (fixed v t) m h = tt
-joined-below {inv} (linked {k = k} {i = i} n r) m h =
-    let q = along-below r in
-    and-T (ltb k m) (not i || inv) (lt→ltb k m (le-trans (q .0) h)) (q .1)
-
-pub level-grows : {d : ℕ} (inv : Bool) (gs fs : List (Tree Row d)) → length gs ≤ length (level inv gs fs .entries)
-level-grows inv gs [] = le-refl _
-level-grows inv gs (f ∷ fs) = le-trans (joined-grows (candidate-view inv f gs)) (level-grows inv (candidate inv f gs .entries) fs)
-
-pub links-below : {d : ℕ} (inv : Bool) (gs fs : List (Tree Row d)) →
-    T (all (linkBelow inv (length (level inv gs fs .entries))) (level inv gs fs .links))
-links-below inv gs [] = tt
-links-below inv gs (f ∷ fs) =
-    and-T (linkBelow inv _ (candidate inv f gs .link)) (all (linkBelow inv _) (level inv (candidate inv f gs .entries) fs .links))
-    (joined-below (candidate-view inv f gs) _ (level-grows inv (candidate inv f gs .entries) fs))
-    (links-below inv (candidate inv f gs .entries) fs)

@@ -31,10 +31,6 @@ loweredCounts (suc (suc d)) fs =
     counts true (suc (suc d)) (fill true (suc (suc d)) fs)
     ∷ map (λ r. differing (level true [] (loweredNext fs) .links) ∷ r) (loweredCounts (suc d) (loweredNext fs))
 
-pub lowered-zero : (fs : List (Tree Row 0)) → loweredCounts 0 fs ≡ []
-unfolding loweredCounts
-lowered-zero fs = refl
-
 pub lowered-one : (fs : List (Tree Row 1)) → loweredCounts 1 fs ≡ counts true 1 (fill true 1 fs) ∷ []
 unfolding loweredCounts
 lowered-one fs = refl

@@ -80,9 +80,6 @@ moved-order n v p order o h =
 
 -- orders beside one another
 
-pub moved-beside : (n v p : ℕ) (order : List ℕ) → T (isOrder n order) → v < n → Beside n v order (moved v p order)
-moved-beside n v p order o h = record { valid = moved-order n v p order o h; others = without-moved v p order }
-
 -- what stands beside a list stands beside each that differs from it in the level of v
 pub beside-same : {n v : ℕ} {order order′ other : List ℕ} → without eqb v order ≡ without eqb v order′
     → Beside n v order other → Beside n v order′ other

@@ -25,10 +25,6 @@ unfoldable pub afterTurns : Table → ℕ → List ℕ → Pass
 afterTurns t zero order = start order
 afterTurns t (suc k) order = turn t (afterTurns t k order)
 
-pub turn-tried : (t : Table) (s : Pass) → turn t s .tried ≡ s .tried + t .n
-unfolding turn
-turn-tried t s = refl
-
 pub after-suc : (t : Table) (k : ℕ) (order : List ℕ) → afterTurns t (suc k) order ≡ turn t (afterTurns t k order)
 unfolding afterTurns
 after-suc t k order = refl

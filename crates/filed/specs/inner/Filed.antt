@@ -6,7 +6,7 @@ use Prim.Native.Nat.{ℕ}
 use Rattle.table.specs.declared.Outcome.{Outcome}
 use Rattle.table.specs.declared.State.{State}
 use Rattle.table.specs.Answer.{done}
-use Rattle.cellfile.specs.Write.{writeAnswer, writeWork}
+use Rattle.network_file.specs.Write.{writeAnswer, writeWork}
 use Rattle.printed.specs.Built.{refusedLine}
 use Rattle.printed.specs.BuiltInput.{builtOutcome, builtWork, builtRoots, builtCells}
 use Rattle.filed.specs.NetworkFile.{networkFile}

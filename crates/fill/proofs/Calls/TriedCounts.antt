@@ -1,11 +1,11 @@
 -- What trials leave: the lent counts level by level, the work buffer, and that they succeed; and what counts add up to.
 -- Assumes nothing.
 use mathlib.Core.Path.{_≡_, refl, sym, ap, _∙_, subst}
-use mathlib.Core.Bool.{true, false, not}
+use mathlib.Core.Bool.{true, false, not, and-false}
 use mathlib.Core.List.{List, _++_, map, sum, append-assoc}
 use Prim.Native.Nat.{ℕ, zero, suc, _+_, _*_, _-_, _≤_, _<_}
 use native.Mathlib.Omega.{arith}
-use borrow.Author.Tests.{le-leb, ltb-true, ltb-false, eqb-true, eqb-false}
+use borrow.Author.Tests.{le-leb, lt-leb, lt-ltb, le-ltb, ltb-true, ltb-false, eqb-true, eqb-false}
 use lib.Dec.{T, eqb, ltb}
 use lib.ListN.{length, take, drop, replicate, replicate-append-replicate}
 use lib.Seq.{take-at}
@@ -24,7 +24,7 @@ use Rattle.table.specs.declared.State.{State}
 use Rattle.table.specs.State.{goodHeading, stageOf, isNothing}
 use Rattle.table.proofs.Held.{heading-inputs, heading-few}
 use Rattle.fill.specs.Work.{workSize, trialsSize, trialsZero, zeroWork}
-use Rattle.fill.specs.Calls.{enough, perLevel, countsSize, countsOf, trialCounts, triedCounts, trialsAnswer, trialsCounts, trialsWork}
+use Rattle.fill.specs.Calls.{enough, perLevel, countsSize, countsOf, countsPut, trialCounts, triedCounts, trialsAnswer, trialsCounts, trialsWork}
 use Rattle.fill.proofs.Buffers.Sizes.{sizes}
 use Rattle.fill.proofs.Calls.Filling.{cells-filled}
 
@@ -32,7 +32,19 @@ pub counts-size : countsSize ≡ 100
 unfolding countsSize
 counts-size = refl
 
--- the counts of one level put in
+-- the counts of one level put in, or nothing
+module _ (p : ℕ) (known found : List ℕ) where
+  pub counts-put : p < mostVariables → countsSize ≤ length found → countsPut p known found ≡ splice found (mostVariables * p) known
+  unfolding countsPut
+  counts-put h k = rw (lt-ltb p mostVariables h, le-leb countsSize (length found) k)
+
+  pub put-nowhere : mostVariables ≤ p → countsPut p known found ≡ found
+  unfolding countsPut
+  put-nowhere h = rw (le-ltb p mostVariables h)
+
+  pub put-short : length found < countsSize → countsPut p known found ≡ found
+  unfolding countsPut
+  put-short h = rw (lt-leb countsSize (length found) h, and-false (ltb p mostVariables))
 
 module _ (l : List ℕ) (p : ℕ) (x : List ℕ) (long : length x ≡ mostVariables) (room : mostVariables * p ≤ length l) where
   pub put-here : countsOf p (splice l (mostVariables * p) x) ≡ x

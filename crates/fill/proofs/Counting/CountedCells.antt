@@ -114,5 +114,3 @@ counts-few work at (k ∷ ks) =
       sum-digits (λ e. pairDiffers work (at + 4 * e)) k,
       sum-cons (differingPairs work at k) (countsAt work (at + 4 * k) ks),
     )
-
--- all added up

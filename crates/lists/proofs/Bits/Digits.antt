@@ -77,5 +77,3 @@ number-bit (suc n) x h =
     number-cong n (λ v. bit (suc n) v x) (λ v. bit n v (x / 2)) (λ v k. bit-half n v x k) ∙ number-bit n (x / 2) (omega arith) in
     let l : digit (bit (suc n) n x) ≡ x % 2 = ap digit (bit-last n x) ∙ digit-eqb (x % 2) (omega arith) in
     rw (e, l) (omega arith)
-
--- a tree drawn from f has at each row what f gives of the row's number

@@ -16,20 +16,20 @@ use Rattle.lists.specs.Written.{splice}
 use Rattle.lists.proofs.Written.Windows.{splice-append}
 use Rattle.matching.specs.Bytes.{alwaysByte, agreeByte, mergeByte}
 use Rattle.matching.specs.Parts.{alwaysPart, agreePart, mergePart}
-use Rattle.matching.specs.inner.Words.{wordOf, bytesOf, partOf}
+use Rattle.matching.specs.inner.Words.{numberOf, bytesOf, partOf}
 use Rattle.matching.proofs.Linking.Along.{partOn}
 use Rattle.matching.proofs.Linking.First.{part-within}
 use Rattle.matching.proofs.Wordwise.Bytes.{Small, small-drop, length-bytes, word-lt}
 use Rattle.matching.proofs.Wordwise.PartWords.{always-word, agree-word, merge-words, part-words}
 
 -- a candidate of bytes by the numbers of its values and its care
-pub own-words : (w v c : ℕ) (f : List ℕ) → Small f → length f ≡ w + w → v ≡ wordOf (take w (drop 0 f)) → c ≡ wordOf (take w (drop w f))
+pub own-words : (w v c : ℕ) (f : List ℕ) → Small f → length f ≡ w + w → v ≡ numberOf (take w (drop 0 f)) → c ≡ numberOf (take w (drop w f))
     → (partOf w v c ≡ f) × (c < 256 ^ w)
 own-words w v c f h long p q =
     let z : 0 + w ≡ w = omega arith in
-    let e : take (w + w) f ≡ partOf w (wordOf (take w (drop 0 f))) (wordOf (take w (drop (0 + w) f))) =
+    let e : take (w + w) f ≡ partOf w (numberOf (take w (drop 0 f))) (numberOf (take w (drop (0 + w) f))) =
     part-words w 0 w f h (le-refl w) (omega arith) in (
-      ap₂ (partOf w) p (q ∙ ap (λ (n : ℕ). wordOf (take w (drop n f))) (sym z)) ∙ sym e ∙ take-all (w + w) f (omega arith),
+      ap₂ (partOf w) p (q ∙ ap (λ (n : ℕ). numberOf (take w (drop n f))) (sym z)) ∙ sym e ∙ take-all (w + w) f (omega arith),
       subst (λ (x : ℕ). x < 256 ^ w) (sym q) (word-lt w w (drop w f) (small-drop w f h) (le-refl w)),
     )
 
@@ -45,7 +45,7 @@ module _ (w f c : ℕ) (small : c < 256 ^ w) (v : Bool) where
 
 -- the word at byte a
 abbrev pub wordOn : List ℕ → ℕ → ℕ
-wordOn l a = wordOf (take 8 (drop a l))
+wordOn l a = numberOf (take 8 (drop a l))
 
 -- two words stored one behind the other
 pub words-stored : (w x y a o : ℕ) (l m m′ : List ℕ) → a ≤ length l → o ≡ a + w → m ≡ splice l a (bytesOf w x) → m′ ≡ splice m o (bytesOf w y)
@@ -64,7 +64,7 @@ splice-whole l x e = ap (λ (y : List ℕ). x ++ y) (drop-of-length-le l {i = 0 
 
 -- the candidate's words merged into those of a part, g and d, and stored
 pub words-merged : (w f c : ℕ) (i : Bool) (l : List ℕ) → Small l → length l ≡ w + w → (g d x : ℕ) (m m′ : List ℕ)
-    → g ≡ wordOf (take w (drop 0 l)) → d ≡ wordOf (take w (drop w l)) → x ≡ mergeByte i f c g
+    → g ≡ numberOf (take w (drop 0 l)) → d ≡ numberOf (take w (drop w l)) → x ≡ mergeByte i f c g
     → m ≡ splice l 0 (bytesOf w x) → m′ ≡ splice m w (bytesOf w (bitOr c d)) → m′ ≡ mergePart i w (partOf w f c) l
 words-merged w f c i l h long g d x m m′ is-g is-d is-x p q =
     let y = partOf w x (bitOr c d) in

@@ -12,7 +12,7 @@ use Rattle.reorder.specs.Sizes.{width}
 use Rattle.matching.specs.Bytes.{agreeByte, mergeByte}
 use Rattle.matching.specs.Level.{partAt}
 use Rattle.matching.specs.Parts.{agreePart, mergePart, halfPart, offeredPart}
-use Rattle.matching.specs.inner.Words.{wordOf, partOf}
+use Rattle.matching.specs.inner.Words.{numberOf, partOf}
 use Rattle.matching.proofs.Buffers.PartLengths.{offered-is}
 use Rattle.matching.proofs.Wordwise.Bytes.{Small, bytes-power}
 use Rattle.matching.proofs.Wordwise.HalfWords.{halfAt, half-words, half-word-lt}
@@ -31,12 +31,12 @@ pub record Offers (d : ℕ) (p : List ℕ) (low high low-care high-care : ℕ) :
       → (partOf (width d) low low-care ≡ offeredPart false d p) × (partOf (width d) high high-care ≡ offeredPart true d p)
 
 module _ (d a o : ℕ) (l : List ℕ) (h : Small l) (in-list : a + (width (suc d) + width (suc d)) ≤ length l) (at : o ≡ a + width (suc d))
-    (low high low-care high-care : ℕ) (is-low : low ≡ wordOf (halfAt false d a l)) (is-high : high ≡ wordOf (halfAt true d a l))
-    (is-low-care : low-care ≡ wordOf (halfAt false d o l)) (is-high-care : high-care ≡ wordOf (halfAt true d o l)) where
-  half-of : (b : Bool) (f c : ℕ) → f ≡ wordOf (halfAt b d a l) → c ≡ wordOf (halfAt b d o l)
+    (low high low-care high-care : ℕ) (is-low : low ≡ numberOf (halfAt false d a l)) (is-high : high ≡ numberOf (halfAt true d a l))
+    (is-low-care : low-care ≡ numberOf (halfAt false d o l)) (is-high-care : high-care ≡ numberOf (halfAt true d o l)) where
+  half-of : (b : Bool) (f c : ℕ) → f ≡ numberOf (halfAt b d a l) → c ≡ numberOf (halfAt b d o l)
       → (partOf (width d) f c ≡ halfPart b d (partAt (suc d) a l)) × (c < 256 ^ width d)
   half-of b f c p q = (
-    ap₂ (partOf (width d)) p (q ∙ ap (λ (n : ℕ). wordOf (halfAt b d n l)) at) ∙ sym (half-words b d a l h in-list),
+    ap₂ (partOf (width d)) p (q ∙ ap (λ (n : ℕ). numberOf (halfAt b d n l)) at) ∙ sym (half-words b d a l h in-list),
     subst (λ (x : ℕ). x < 256 ^ width d) (sym q) (half-word-lt b d o l h (omega arith)),
   )
 

@@ -20,7 +20,7 @@ use Rattle.reorder.specs.Sizes.{width}
 use Rattle.reorder.proofs.Pack.{width-small, width-suc, width-rows, by-width}
 use Rattle.matching.specs.Level.{partAt}
 use Rattle.matching.specs.Parts.{halfByte, halfBytes, halfPart}
-use Rattle.matching.specs.inner.Words.{wordOf, bytesOf, partOf}
+use Rattle.matching.specs.inner.Words.{numberOf, bytesOf, partOf}
 use Rattle.matching.proofs.Parts.PartHalves.{width-pos, width-narrow}
 use Rattle.matching.proofs.Wordwise.Bytes.{Small, small-drop, small-take, word-lt, word-take, word-drop, bytes-word}
 
@@ -48,7 +48,7 @@ half-low b d x h =
     ap (λ (k : ℕ). x % 2 ^ k / 2 ^ m % 2 ^ r) e ∙ ap (λ (y : ℕ). y % 2 ^ r) (field x (8 - m) m)
     ∙ ap (λ (k : ℕ). x / 2 ^ m % 2 ^ k % 2 ^ r) q ∙ mod-mod-pow (x / 2 ^ m) (8 - m - r) r
 
-first-byte : (l : List ℕ) → Small l → getD l 0 0 ≡ wordOf l % 256
+first-byte : (l : List ℕ) → Small l → getD l 0 0 ≡ numberOf l % 256
 first-byte [] h = refl
 first-byte (x ∷ l) h = omega (arith, h 0)
 
@@ -72,17 +72,17 @@ halfAt b d a l = halfBytes b d (width d) (planeAt d a l)
 
 module _ (b : Bool) (d a : ℕ) (l : List ℕ) (h : Small l) where
   -- out of the word that the plane lies in
-  pub half-in-word : d ≤ 5 → halfByte b d (wordOf (take 8 (drop a l))) ≡ wordOf (halfAt b d a l)
+  pub half-in-word : d ≤ 5 → halfByte b d (numberOf (take 8 (drop a l))) ≡ numberOf (halfAt b d a l)
   half-in-word few =
       let w = width d in
       let v = width (suc d) in
-      let x = wordOf (take 8 (drop a l)) in
+      let x = numberOf (take 8 (drop a l)) in
       let small = small-take 8 (drop a l) (small-drop a l h) in
       by-width d
       (λ k. let q : getD (planeAt d a l) 0 0 ≡ x % 256 =
       getD-take v (drop a l) 0 0 (width-pos (suc d)) ∙ sym (getD-take 8 (drop a l) 0 0 (lit< tt)) ∙ first-byte (take 8 (drop a l)) small in
       sym (half-low b d x k) ∙ ap (halfByte b d) (sym q) ∙ sym (add-zero (halfByte b d (getD (planeAt d a l) 0 0)))
-      ∙ ap wordOf (sym (half-bits b d w (planeAt d a l) k)))
+      ∙ ap numberOf (sym (half-bits b d w (planeAt d a l) k)))
       (λ k. let n = digit b * w in
       let within : n + w ≤ v = omega (arith, width-suc d k, digit-part-le b w) in
       let r : 8 * w ≡ 2 ^ d = omega (arith, width-rows d k) in
@@ -91,15 +91,15 @@ module _ (b : Bool) (d a : ℕ) (l : List ℕ) (h : Small l) where
       let bytes : halfAt b d a l ≡ take w (drop n (take 8 (drop a l))) =
       half-cut b d w (planeAt d a l) k ∙ window-within (drop a l) n w v within
       ∙ sym (window-within (drop a l) n w 8 (omega (arith, width-narrow (suc d) (omega arith)))) in
-      sym (ap wordOf bytes ∙ word-take w (drop n (take 8 (drop a l))) (small-drop n (take 8 (drop a l)) small)
+      sym (ap numberOf bytes ∙ word-take w (drop n (take 8 (drop a l))) (small-drop n (take 8 (drop a l)) small)
       ∙ ap (λ (y : ℕ). y % 2 ^ (8 * w)) (word-drop n (take 8 (drop a l)) small)
       ∙ ap₂ (λ (i j : ℕ). x / 2 ^ i % 2 ^ j) s r))
 
   -- of 64 rows it is a word by itself
-  pub half-is-word : (s : ℕ) → d ≡ 6 → s ≡ digit b * 8 → wordOf (take 8 (drop (a + s) l)) ≡ wordOf (halfAt b d a l)
+  pub half-is-word : (s : ℕ) → d ≡ 6 → s ≡ digit b * 8 → numberOf (take 8 (drop (a + s) l)) ≡ numberOf (halfAt b d a l)
   half-is-word s p q =
       rw p
-      (ap wordOf
+      (ap numberOf
       (ap (λ (n : ℕ). take 8 (drop (a + n) l)) q ∙ ap (take 8) (sym (drop-drop (digit b * 8) a l))
       ∙ sym (window-within (drop a l) (digit b * 8) 8 16 (omega (arith, digit-part-le b 8)))))
 
@@ -124,19 +124,19 @@ module _ (b : Bool) (d a : ℕ) (l : List ℕ) (h : Small l) where
         ∙ length-take-le (width d) (drop n (planeAt d a l))
         (omega (arith, length-drop n (planeAt d a l), width-suc d k, digit-part-le b (width d))))
 
-    half-bytes-are : bytesOf (width d) (wordOf (halfAt b d a l)) ≡ halfAt b d a l
+    half-bytes-are : bytesOf (width d) (numberOf (halfAt b d a l)) ≡ halfAt b d a l
     half-bytes-are =
         bytes-word (width d) (halfAt b d a l) half-small (omega (arith, length-half-at))
         ∙ take-all (width d) (halfAt b d a l) (omega (arith, length-half-at))
 
-    pub half-word-lt : wordOf (halfAt b d a l) < 256 ^ width d
+    pub half-word-lt : numberOf (halfAt b d a l) < 256 ^ width d
     half-word-lt =
-        subst (λ (y : List ℕ). wordOf y < 256 ^ width d) (take-all (width d) (halfAt b d a l) (omega (arith, length-half-at)))
+        subst (λ (y : List ℕ). numberOf y < 256 ^ width d) (take-all (width d) (halfAt b d a l) (omega (arith, length-half-at)))
         (word-lt (width d) (width d) (halfAt b d a l) half-small (le-refl (width d)))
 
 -- the half of the part at a, by its words
 pub half-words : (b : Bool) (d a : ℕ) (l : List ℕ) → Small l → a + (width (suc d) + width (suc d)) ≤ length l
-    → halfPart b d (partAt (suc d) a l) ≡ partOf (width d) (wordOf (halfAt b d a l)) (wordOf (halfAt b d (a + width (suc d)) l))
+    → halfPart b d (partAt (suc d) a l) ≡ partOf (width d) (numberOf (halfAt b d a l)) (numberOf (halfAt b d (a + width (suc d)) l))
 unfolding halfPart
 half-words b d a l h in-list =
     let v = width (suc d) in

@@ -16,7 +16,7 @@ use Rattle.lists.proofs.Lists.Membership.{all-mapped}
 use Rattle.lists.proofs.Numbers.UpTo.{map-upTo-first, map-upTo-cong}
 use Rattle.matching.specs.Bytes.{alwaysByte, agreeByte, mergeByte}
 use Rattle.matching.specs.Parts.{valueByte, careByte, alwaysPart, agreePart, mergePart}
-use Rattle.matching.specs.inner.Words.{wordOf, bytesOf, partOf}
+use Rattle.matching.specs.inner.Words.{numberOf, bytesOf, partOf}
 use Rattle.matching.proofs.Parts.Blockwise.{cond-lt, always-block, agree-block, merge-block}
 use Rattle.matching.proofs.Wordwise.Bytes.{Small, small-drop, small-take, length-bytes, bytes-word}
 
@@ -138,9 +138,9 @@ module _ (w f c : ℕ) where
 
 -- the part that stands at a is that of the words there, of w bytes each or more
 pub part-words : (w a n : ℕ) (l : List ℕ) → Small l → w ≤ n → a + w + n ≤ length l
-    → take (w + w) (drop a l) ≡ partOf w (wordOf (take n (drop a l))) (wordOf (take n (drop (a + w) l)))
+    → take (w + w) (drop a l) ≡ partOf w (numberOf (take n (drop a l))) (numberOf (take n (drop (a + w) l)))
 part-words w a n l h few m =
-    let plane : (k : ℕ) → k + n ≤ length l → take w (drop k l) ≡ bytesOf w (wordOf (take n (drop k l))) =
+    let plane : (k : ℕ) → k + n ≤ length l → take w (drop k l) ≡ bytesOf w (numberOf (take n (drop k l))) =
     λ k o. let t : length (take n (drop k l)) ≡ n = length-take-le n (drop k l) (omega (arith, length-drop k l)) in
     sym (bytes-word w (take n (drop k l)) (small-take n (drop k l) (small-drop k l h)) (omega arith) ∙ take-take w n (drop k l) few) in
     take-add w w (drop a l)

@@ -16,7 +16,7 @@ use Rattle.lists.proofs.Lists.Membership.{all-mapped, all-append-and}
 use Rattle.lists.proofs.Numbers.UpTo.{map-upTo-add, map-upTo-cong}
 use Rattle.matching.specs.Bytes.{agreeByte}
 use Rattle.matching.specs.Parts.{valueByte, careByte}
-use Rattle.matching.specs.inner.Words.{wordOf, bytesOf}
+use Rattle.matching.specs.inner.Words.{numberOf, bytesOf}
 use Rattle.matching.proofs.Wordwise.Bytes.{Small, small-drop, small-take, word-lt, bytes-word}
 use Rattle.matching.proofs.Wordwise.PartWords.{agree-each}
 
@@ -42,7 +42,7 @@ xor-none x y =
     (λ t. let p : x ≡ y = eqb→eq x y t in rw (p, xor-self y) tt)
 
 -- byte n of the word at a
-word-byte : (l : List ℕ) (a n : ℕ) → Small l → a + 8 ≤ length l → n < 8 → getD (bytesOf 8 (wordOf (take 8 (drop a l)))) n 0 ≡ getD l (a + n) 0
+word-byte : (l : List ℕ) (a n : ℕ) → Small l → a + 8 ≤ length l → n < 8 → getD (bytesOf 8 (numberOf (take 8 (drop a l)))) n 0 ≡ getD l (a + n) 0
 word-byte l a n h m o =
     let t : length (take 8 (drop a l)) ≡ 8 = length-take-le 8 (drop a l) (omega (arith, length-drop a l)) in
     ap (λ (y : List ℕ). getD y n 0)
@@ -69,20 +69,20 @@ module _ (w : ℕ) (f l : List ℕ) (a j : ℕ) (small-f : Small f) (small-l : S
 
   abbrev Words : (ℕ → ℕ → ℕ → ℕ → Type 0) → Type 0
   Words P =
-      P (wordOf (take 8 (drop j f))) (wordOf (take 8 (drop (w + j) f))) (wordOf (take 8 (drop (a + j) l)))
-      (wordOf (take 8 (drop (a + w + j) l)))
+      P (numberOf (take 8 (drop j f))) (numberOf (take 8 (drop (w + j) f))) (numberOf (take 8 (drop (a + j) l)))
+      (numberOf (take 8 (drop (a + w + j) l)))
 
   eight : Words (λ x c y d. all (λ b. b) (map (λ n. byteTest i w f part (j + n)) (upTo 8)) ≡ agreeByte i x c y d)
   eight =
-      let value : (n : ℕ) → n < 8 → valueByte part (j + n) ≡ getD (bytesOf 8 (wordOf (take 8 (drop (a + j) l)))) n 0 =
+      let value : (n : ℕ) → n < 8 → valueByte part (j + n) ≡ getD (bytesOf 8 (numberOf (take 8 (drop (a + j) l)))) n 0 =
       λ n h. let e : a + (j + n) ≡ a + j + n = omega arith in
       getD-take (w + w) (drop a l) (j + n) 0 (omega arith) ∙ getD-drop a l (j + n) 0 ∙ ap (λ (m : ℕ). getD l m 0) e
       ∙ sym (word-byte l (a + j) n small-l (omega arith) h) in
-      let care : (n : ℕ) → n < 8 → careByte w part (j + n) ≡ getD (bytesOf 8 (wordOf (take 8 (drop (a + w + j) l)))) n 0 =
+      let care : (n : ℕ) → n < 8 → careByte w part (j + n) ≡ getD (bytesOf 8 (numberOf (take 8 (drop (a + w + j) l)))) n 0 =
       λ n h. let e : a + (w + (j + n)) ≡ a + w + j + n = omega arith in
       getD-take (w + w) (drop a l) (w + (j + n)) 0 (omega arith) ∙ getD-drop a l (w + (j + n)) 0 ∙ ap (λ (m : ℕ). getD l m 0) e
       ∙ sym (word-byte l (a + w + j) n small-l (omega arith) h) in
-      let own : (n : ℕ) → n < 8 → careByte w f (j + n) ≡ getD (bytesOf 8 (wordOf (take 8 (drop (w + j) f)))) n 0 =
+      let own : (n : ℕ) → n < 8 → careByte w f (j + n) ≡ getD (bytesOf 8 (numberOf (take 8 (drop (w + j) f)))) n 0 =
       λ n h. let e : w + (j + n) ≡ w + j + n = omega arith in
       ap (λ (m : ℕ). getD f m 0) e ∙ sym (word-byte f (w + j) n small-f (omega arith) h) in
       ap (all (λ b. b))

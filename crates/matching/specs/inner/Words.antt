@@ -4,9 +4,9 @@ use mathlib.Core.List.{List, [], _∷_, _++_}
 use Prim.Native.Nat.{ℕ, zero, suc, _+_, _*_, _/_, _%_}
 pub use Rattle.matching.specs.Links.{wordSize}
 
-abbrev pub wordOf : List ℕ → ℕ
-wordOf [] = 0
-wordOf (b ∷ bs) = b + 256 * wordOf bs
+abbrev pub numberOf : List ℕ → ℕ
+numberOf [] = 0
+numberOf (b ∷ bs) = b + 256 * numberOf bs
 
 -- the w lowest bytes of a number
 abbrev pub bytesOf : ℕ → ℕ → List ℕ

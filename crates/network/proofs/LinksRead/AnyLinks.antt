@@ -16,15 +16,15 @@ use Rattle.lists.proofs.Written.Outside.{Outside, outside-none, outside-join}
 use Rattle.fill.specs.Counts.{linkAt, pairDiffers, differingPairs}
 use Rattle.network.specs.Levels.{Made, made, entryMade, levelMade, levelAt, levelsMade}
 use Rattle.network.proofs.LinksRead.Offsets.{at-rises}
-use Rattle.network.proofs.LinksRead.Stored.{same-word, outside-put}
+use Rattle.network.proofs.LinksRead.Stored.{same-stored, outside-put}
 
 -- the same bytes, the same pair
 
 same-pair : (w w′ : List ℕ) (a : ℕ) → ((j : ℕ) → a ≤ j → j < a + 4 → getD w′ j 0 ≡ getD w j 0) → pairDiffers w′ a ≡ pairDiffers w a
 unfolding pairDiffers
 same-pair w w′ a f =
-    ap₂ (λ (x y : ℕ). not (eqb x y)) (same-word w w′ a (f a (omega arith) (omega arith)) (f (a + 1) (omega arith) (omega arith)))
-    (same-word w w′ (a + 2) (f (a + 2) (omega arith) (omega arith)) (f (a + 2 + 1) (omega arith) (omega arith)))
+    ap₂ (λ (x y : ℕ). not (eqb x y)) (same-stored w w′ a (f a (omega arith) (omega arith)) (f (a + 1) (omega arith) (omega arith)))
+    (same-stored w w′ (a + 2) (f (a + 2) (omega arith) (omega arith)) (f (a + 2 + 1) (omega arith) (omega arith)))
 
 same-pairs : (w w′ : List ℕ) (i e : ℕ) → ((j : ℕ) → i ≤ j → j < i + 4 * e → getD w′ j 0 ≡ getD w j 0)
     → differingPairs w′ i e ≡ differingPairs w i e

@@ -22,7 +22,7 @@ use Rattle.matching.specs.Links.{linkNumber}
 use Rattle.fill.proofs.Counting.LinkPairs.{Links, numbers-same}
 use Rattle.lent.specs.Lent.{numbersOf}
 use Rattle.network.specs.Levels.{storedAt, refAt, Made, passed, noded, entryMade, levelMade}
-use Rattle.network.proofs.LinksRead.Stored.{same-word, outside-put, word-put}
+use Rattle.network.proofs.LinksRead.Stored.{same-stored, outside-put, stored-put}
 use Rattle.network.proofs.LinksRead.AnyLinks.{level-outside}
 use Rattle.network.proofs.LinksRead.LinkRefs.{Slots, links-kept, slots-kept, number-ref}
 
@@ -81,7 +81,7 @@ module _ (p below : ℕ) (refs : List ℕ) where
   -- the first entry and the others together: u is what the first makes of s, with its reference `first`
   slots-join : (i first : ℕ) (rs : List ℕ) (u t : Made) (b : ℕ) → storedAt (u .work) i ≡ first → Outside (u .work) (t .work) (i + 4) b
       → Slots (t .work) (i + 4) rs → Slots (t .work) i (first ∷ rs)
-  slots-join i first rs u t b e o h = (same-word (u .work) (t .work) i (o .under i (omega arith)) (o .under (i + 1) (omega arith)) ∙ e, h)
+  slots-join i first rs u t b e o h = (same-stored (u .work) (t .work) i (o .under i (omega arith)) (o .under (i + 1) (omega arith)) ∙ e, h)
 
   -- where the links are read on from u
   links-on : (i : ℕ) (w w′ : List ℕ) (ls : List Link) → Outside w w′ i (i + 2) → Links w (i + 2 + 2) ls → Links w′ (i + 4) ls
@@ -111,7 +111,7 @@ module _ (p below : ℕ) (refs : List ℕ) where
         record {
           slots =
               rw e (slots-join i r (entryRefs true (s .next) refs ls) (passed i r s) t (i + 4 + 4 * pairsOf ls)
-              (word-put (s .work) i r long) left (rest .slots));
+              (stored-put (s .work) i r long) left (rest .slots));
           stored = rw e (rest .stored);
         }
 
@@ -121,7 +121,7 @@ module _ (p below : ℕ) (refs : List ℕ) where
         record {
           slots =
               rw e (slots-join i o (entryRefs true (suc (s .next)) refs ls) (noded p i r q s) t (i + 4 + 4 * pairsOf ls)
-              (word-put (s .work) i o long) left
+              (stored-put (s .work) i o long) left
               (subst (λ x. Slots (t .work) (i + 4) (entryRefs true x refs ls)) (add-one (s .next)) (rest .slots)));
           stored =
               rw e (rest .stored ∙ ap (λ x. sets (noded p i r q s .cells) x (numbersOf (entryNodes true p refs ls))) (three (s .next)));

@@ -20,7 +20,7 @@ use Rattle.diagram.proofs.Tracing.Rising.{Valid, AllValid}
 use Rattle.matching.specs.Links.{linkNumber}
 use Rattle.fill.proofs.Counting.LinkPairs.{Links}
 use Rattle.network.specs.Levels.{storedLimit, storedAt, refAt}
-use Rattle.network.proofs.LinksRead.Stored.{same-word}
+use Rattle.network.proofs.LinksRead.Stored.{same-stored}
 
 -- the opposite of a reference
 
@@ -69,14 +69,14 @@ pub links-kept : (w w′ : List ℕ) (i : ℕ) (ks : List Link) → ((j : ℕ) �
     → Links w i ks → Links w′ i ks
 links-kept w w′ i [] f h = tt
 links-kept w w′ i (k ∷ ks) f h = (
-  same-word w w′ i (f i (omega arith) (omega arith)) (f (i + 1) (omega arith) (omega arith)) ∙ h .0,
+  same-stored w w′ i (f i (omega arith) (omega arith)) (f (i + 1) (omega arith) (omega arith)) ∙ h .0,
   links-kept w w′ (i + 2) ks (λ j a b. f j (omega arith) (omega arith)) (h .1),
 )
 
 pub slots-kept : (w w′ : List ℕ) (i : ℕ) (rs : List ℕ) → ((j : ℕ) → i ≤ j → getD w′ j 0 ≡ getD w j 0) → Slots w i rs → Slots w′ i rs
 slots-kept w w′ i [] f h = tt
 slots-kept w w′ i (r ∷ rs) f h =
-    (same-word w w′ i (f i (omega arith)) (f (i + 1) (omega arith)) ∙ h .0, slots-kept w w′ (i + 4) rs (λ j a. f j (omega arith)) (h .1))
+    (same-stored w w′ i (f i (omega arith)) (f (i + 1) (omega arith)) ∙ h .0, slots-kept w w′ (i + 4) rs (λ j a. f j (omega arith)) (h .1))
 
 pub links-split : (w : List ℕ) (i : ℕ) (ks ls : List Link) → Links w i (ks ++ ls) → Links w i ks × Links w (i + 2 * length ks) ls
 links-split w i [] ls h = (tt, subst (λ x. Links w x ls) (sym (add-zero i)) h)

@@ -30,7 +30,7 @@ use Rattle.lent.specs.Lent.{rootsSize}
 use Rattle.lent.proofs.Sizes.{roots-size}
 use Rattle.network.specs.Build.{capacity, clears}
 use Rattle.network.specs.Levels.{storedLimit, Made, made, levelAt, levelsMade, rootAt}
-use Rattle.network.specs.Reading.{boarded, readAnswer, readRoots, readCells, readWork}
+use Rattle.network.specs.Reading.{boarded, readLinksAnswer, readLinksRoots, readLinksCells, readLinksWork}
 use Rattle.network.proofs.LinksRead.AnyLinks.{levels-outside, levels-counted}
 use Rattle.network.proofs.LinksRead.LevelTurns.{levels-work}
 use Rattle.network.proofs.LinksRead.Offsets.{sum-below}
@@ -38,7 +38,7 @@ use Rattle.network.proofs.LinksRead.WorkLinks.{clear-zero}
 
 module _ (n m : ℕ) (entries work roots cells : List ℕ) where
   abbrev answered : Answer
-  answered = readAnswer n m entries work roots cells
+  answered = readLinksAnswer n m entries work roots cells
 
   abbrev levels : Levels
   levels = linkedLevels n m entries work
@@ -47,24 +47,24 @@ module _ (n m : ℕ) (entries work roots cells : List ℕ) where
   abbrev pub Ended : Answer → List ℕ → List ℕ → List ℕ → Type 0
   Ended x w r c =
       (x ≡ answered)
-      × ((r ≡ readRoots n m entries work roots cells)
-      × ((c ≡ readCells n m entries work roots cells) × (w ≡ readWork n m entries work roots cells)))
+      × ((r ≡ readLinksRoots n m entries work roots cells)
+      × ((c ≡ readLinksCells n m entries work roots cells) × (w ≡ readLinksWork n m entries work roots cells)))
 
   -- a refusal leaves all but the work buffer
-  refusal : (x : Answer) → answered ≡ x → done x ≡ false → (w : List ℕ) → w ≡ readWork n m entries work roots cells → Ended x w roots cells
-  unfolding readRoots readCells
+  refusal : (x : Answer) → answered ≡ x → done x ≡ false → (w : List ℕ) → w ≡ readLinksWork n m entries work roots cells → Ended x w roots cells
+  unfolding readLinksRoots readLinksCells
   refusal x e d w ew = let f : done answered ≡ false = ap done e ∙ d in (sym e, (rw f, (rw f, ew)))
 
-  kept : (x : Answer) → answered ≡ x → clears x ≡ false → work ≡ readWork n m entries work roots cells
-  unfolding readWork
+  kept : (x : Answer) → answered ≡ x → clears x ≡ false → work ≡ readLinksWork n m entries work roots cells
+  unfolding readLinksWork
   kept x e d = let f : clears answered ≡ false = ap clears e ∙ d in rw f
 
-  cleared : (x : Answer) → answered ≡ x → clears x ≡ true → zeroWork work ≡ readWork n m entries work roots cells
-  unfolding readWork
+  cleared : (x : Answer) → answered ≡ x → clears x ≡ true → zeroWork work ≡ readLinksWork n m entries work roots cells
+  unfolding readLinksWork
   cleared x e d = let f : clears answered ≡ true = ap clears e ∙ d in rw f
 
   pub short-case : length roots < mostOutputs → Ended ShortBuffer work roots cells
-  unfolding readAnswer
+  unfolding readLinksAnswer
   short-case h =
       let e : answered ≡ ShortBuffer = rw (lt-leb rootsSize (length roots) (omega (arith, roots-size))) in
       refusal ShortBuffer e refl work (kept ShortBuffer e refl)
@@ -72,7 +72,7 @@ module _ (n m : ℕ) (entries work roots cells : List ℕ) where
   module _ (h : mostOutputs ≤ length roots) where
     -- what the count refuses, then 23
     answer-is : answered ≡ unlessRefused (levels .answer) (boarded cells (levels .answer))
-    unfolding readAnswer
+    unfolding readLinksAnswer
     answer-is = rw (le-leb rootsSize (length roots) (omega (arith, roots-size)))
 
     -- the links don't lie in the work buffer
@@ -162,7 +162,7 @@ module _ (n m : ℕ) (entries work roots cells : List ℕ) where
               → c ≡ levelsMade m entries (k .counts) 0 n (made work cells 0) .cells
               → r ≡ over (rootAt (levelsMade m entries (k .counts) 0 n (made work cells 0) .work) m (levelAt m entries 0)) rootsSize roots
               → Ended (Done total) w r c
-          unfolding readRoots readCells
+          unfolding readLinksRoots readLinksCells
           read-case w r c yw yc yr =
               let e : answered ≡ Done total = board ∙ rw (le-leb total (capacity cells) b) in
               let f : done answered ≡ true = ap done e in

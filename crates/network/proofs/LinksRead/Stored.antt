@@ -1,4 +1,4 @@
--- Words of the work buffer: one put and read again, what it leaves as it was, and several numbers stored one after the other.
+-- Numbers stored in the work buffer: one put and read again, what it leaves as it was, and several one after the other.
 -- Assumes nothing.
 use mathlib.Core.Path.{_≡_, refl, ap, ap₂, _∙_}
 use mathlib.Core.List.{List, [], _∷_, _++_}
@@ -11,8 +11,8 @@ use lib.Seq.{sets, getD-set-same, getD-set-other, set-comm}
 use Rattle.lists.proofs.Written.Outside.{Outside}
 use Rattle.network.specs.Levels.{storedAt, putStored}
 
-pub same-word : (w w′ : List ℕ) (i : ℕ) → getD w′ i 0 ≡ getD w i 0 → getD w′ (i + 1) 0 ≡ getD w (i + 1) 0 → storedAt w′ i ≡ storedAt w i
-same-word w w′ i low high = ap₂ (λ x y. x + 256 * y) low high
+pub same-stored : (w w′ : List ℕ) (i : ℕ) → getD w′ i 0 ≡ getD w i 0 → getD w′ (i + 1) 0 ≡ getD w (i + 1) 0 → storedAt w′ i ≡ storedAt w i
+same-stored w w′ i low high = ap₂ (λ x y. x + 256 * y) low high
 
 module _ (w : List ℕ) (i x : ℕ) where
   put-other : (j : ℕ) → j ≢ i → j ≢ i + 1 → getD (putStored w i x) j 0 ≡ getD w j 0
@@ -25,8 +25,8 @@ module _ (w : List ℕ) (i x : ℕ) where
         past = λ j h. put-other j (λ e. omega arith) (λ e. omega arith);
       }
 
-  pub word-put : i + 1 < length w → storedAt (putStored w i x) i ≡ x
-  word-put h =
+  pub stored-put : i + 1 < length w → storedAt (putStored w i x) i ≡ x
+  stored-put h =
       let low : getD (putStored w i x) i 0 ≡ x % 256 =
       getD-set-other (set w i (x % 256)) (i + 1) i (x / 256) 0 (λ e. omega arith) ∙ getD-set-same w i (x % 256) 0 (omega arith) in
       let high : getD (putStored w i x) (i + 1) 0 ≡ x / 256 =

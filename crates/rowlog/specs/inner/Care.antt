@@ -11,5 +11,5 @@ use Rattle.lists.specs.Bits.{packed}
 unfoldable pub careBit : List ℕ → ℕ → ℕ → ℕ → ℕ → Bool
 careBit counts least n end x = ltb x end && leb least (getD counts (x % 2 ^ n) 0)
 
-unfoldable pub careByte : List ℕ → ℕ → ℕ → ℕ → ℕ → ℕ
-careByte counts least n end i = packed 8 (λ b. careBit counts least n end (8 * i + b))
+unfoldable pub countedByte : List ℕ → ℕ → ℕ → ℕ → ℕ → ℕ
+countedByte counts least n end i = packed 8 (λ b. careBit counts least n end (8 * i + b))

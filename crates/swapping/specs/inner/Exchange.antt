@@ -39,15 +39,15 @@ abbrev pub slots : ℕ
 slots = 8192
 
 -- a slot of a class, by its normal pair: classes in different slots differ, and those of one reference have a slot each
-unfoldable pub slotOf : Pair → ℕ
-slotOf f = (f .low / 2 + 1021 * (f .high + storedLimit - f .low)) % slots
+unfoldable pub pairSlot : Pair → ℕ
+pairSlot f = (f .low / 2 + 1021 * (f .high + storedLimit - f .low)) % slots
 
 -- a list of len entries, each class once; the slot of each has a mark
 pub record Seen (len : ℕ) (list marks : List ℕ) : Type 0 where
   pub fits : len ≤ length list
   pub apart : T (distinct sameClass (pairsIn len list))
   pub room : length marks ≡ slots
-  pub marked : (e : ℕ) → e < len → 1 ≤ getD marks (slotOf (normalPair (pairOf (getD list e 0)))) 0
+  pub marked : (e : ℕ) → e < len → 1 ≤ getD marks (pairSlot (normalPair (pairOf (getD list e 0)))) 0
 
 -- such a list, of the entries gs
 pub record Shows (gs : List Pair) (len : ℕ) (list marks : List ℕ) : Type 0 where

@@ -1,21 +1,18 @@
--- The outcome of a swap by what it is refused for; and a swap leaves a state that still holds a table.
+-- The outcome of a swap by what it is refused for; and what a swap leaves is an order still.
 -- Assumes nothing.
-use mathlib.Core.Path.{_≡_, sym, _∙_, subst}
+use mathlib.Core.Path.{_≡_, sym, subst}
 use mathlib.Core.Bool.{true, false, not}
 use mathlib.Core.List.{List}
 use Prim.Native.Nat.{ℕ, suc, _≤_, _<_}
-use native.Mathlib.Omega.{arith}
 use borrow.Author.Tests.{lt-ltb, le-ltb}
 use lib.Dec.{T}
 use lib.ListN.{take}
-use Rattle.lists.proofs.Bools.{of-T}
 use Rattle.diagram.specs.Orders.Order.{isOrder}
 use Rattle.table.specs.declared.State.{State}
-use Rattle.table.specs.declared.Stage.the-variants.{Table as AtTable}
 use Rattle.table.specs.declared.Answer.the-variants.{Done, NoSuch, NoTable}
 use Rattle.table.specs.State.{orderOf, stageOf, isNothing, exchanged, reorderedState}
 use Rattle.table.specs.Calls.{swapAnswer, swapOutcome}
-use Rattle.table.proofs.Held.{few-inputs, some-outputs, few-outputs, ordered, good-order, stage-good}
+use Rattle.table.proofs.Held.{ordered}
 use Rattle.table.proofs.Ordering.Exchanged.{exchanged-order, take-exchanged}
 
 module _ (s : State) (p : ℕ) where
@@ -37,9 +34,3 @@ module _ (s : State) (p : ℕ) (held : T (not (isNothing (stageOf s)))) (h : suc
   swapped-order =
       subst (λ (l : List ℕ). T (isOrder (s .n) l)) (sym (take-exchanged (s .n) p (s .order) h))
       (exchanged-order (s .n) p (orderOf s) (ordered s held) h)
-
-  pub swapped-stage : stageOf (reorderedState s (exchanged p (s .order))) ≡ AtTable
-  swapped-stage =
-      stage-good (reorderedState s (exchanged p (s .order)))
-      (good-order (s .n) (s .m) (take (s .n) (exchanged p (s .order))) (few-inputs s held) (λ e. omega (arith, some-outputs s held))
-      (few-outputs s held) ∙ of-T swapped-order)

@@ -9,8 +9,8 @@ use Rattle.fill.proofs.Lowered.LoweredLevel.{exchange-asks, level-asks,
 use Rattle.fill.proofs.lowering.lower.Statement.{statement}
 use Rattle.fill.proofs.lowering.lower.Tie as tie
 
-exchange-parts-requires : tie.Need-exchange-parts-requires
-exchange-parts-requires c κs =
+exchange-kept-requires : tie.Need-exchange-kept-requires
+exchange-kept-requires c κs =
     let s = c .before .before .before in
     let a = s .args in
     let k = a .kept in (
@@ -32,7 +32,7 @@ level-requires c κs =
     let s = x .before .before .before .before in
     let a = s .args in
     let k = a .kept in
-    let r = x .exchange-parts in
+    let r = x .exchange-kept in
     let t = level-asks (a .d) (k .from) (k .entries) (now (a .work)) (s .pre .1 .0 .0) (s .pre .1 .0 .1) (s .pre .1 .1 .0) (s .pre .1 .1 .1)
     (r .last .1 .1 .1 .0) (r .ensures) (r .kept .1 .1 .1 .0) in (
       omega (trialSizes, s .pre .0 .0),
@@ -58,7 +58,7 @@ differing-pairs-requires c κs =
     let s = x .before .before .before .before in
     let a = s .args in
     let k = a .kept in
-    let r = x .exchange-parts in
+    let r = x .exchange-kept in
     let t = level-asks (a .d) (k .from) (k .entries) (now (a .work)) (s .pre .1 .0 .0) (s .pre .1 .0 .1) (s .pre .1 .1 .0) (s .pre .1 .1 .1)
     (r .last .1 .1 .1 .0) (r .ensures) (r .kept .1 .1 .1 .0) in
     omega (trialSizes, t .0 .2, l .level .kept .1 .1 .1 .1 .1 .0)
@@ -79,7 +79,7 @@ returns c =
     let s = x .before .before .before .before in
     let a = s .args in
     let k = a .kept in
-    let r = x .exchange-parts in
+    let r = x .exchange-kept in
     let t = lower-leaves (a .d) (k .from) (k .entries) (now (a .work)) (s .pre .1 .0 .0) (s .pre .1 .0 .1) (s .pre .1 .1 .0)
     (s .pre .1 .1 .1) (r .last .1 .1 .1 .0) (r .ensures) (r .kept .1 .1 .1 .0)
     (l .level .result) (c .differing-pairs .result) (l .level .last .1 .1 .1 .1 .1 .0) (l .level .ensures .0) (l .level .ensures .1)
@@ -90,7 +90,7 @@ pub lower-spec : {M : Type 1} → statement M
 lower-spec =
     tie.close
     (tie.spec
-    exchange-parts-requires
+    exchange-kept-requires
     sub-to
     add-level
     level-requires

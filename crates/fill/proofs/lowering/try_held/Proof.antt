@@ -82,8 +82,8 @@ down l d e =
     subst (λ (d : ℕ). Trial (a .state) (a .except) (now (a .values)) (now (a .care)) (now (a .counts)) (found l) d (l .loop .p)
     (k .from) (k .entries) (k .above) (l .loop .work) (l .loop .counts)) e (l .loop .inv .1)
 
-sub-try-level : tie.Need-sub-try-level Inv-loop μ-loop
-sub-try-level c = search needs
+sub-count-kept : tie.Need-sub-count-kept Inv-loop μ-loop
+sub-count-kept c = search needs
 
 -- what a trial asks, where d variables are left
 asks : (l : tie.At-loop Inv-loop μ-loop) (d : ℕ) → begun l .args .state .n - l .loop .p ≡ d → 1 ≤ d
@@ -99,8 +99,8 @@ asks l d e some =
     d (l .loop .p) (k .from) (k .entries) (k .above) (l .loop .work) (l .loop .counts) some (down l d e) in
     (t .0, ((t .1 .0, t .1 .1, omega (trialSizes, s .pre .1 .1, l .loop .inv .1 .found-same)), t .1 .2))
 
-try-level-requires : tie.Need-try-level-requires Inv-loop μ-loop
-try-level-requires c κs =
+count-kept-requires : tie.Need-count-kept-requires Inv-loop μ-loop
+count-kept-requires c κs =
     let l = c .before .before .before .before .before in
     asks l (begun l .args .state .n - l .loop .p) refl (omega trialSizes)
 
@@ -115,19 +115,19 @@ sub-lower-2 c =
     omega (trialSizes, i .if2 .taken)
 
 -- after a trial that is not the last
-abbrev turn : tie.After-try-level Inv-loop μ-loop → tie.At-loop Inv-loop μ-loop
+abbrev turn : tie.After-count-kept Inv-loop μ-loop → tie.At-loop Inv-loop μ-loop
 turn r = r .before .before .before .before .before .before
 
-more : (r : tie.After-try-level Inv-loop μ-loop)
+more : (r : tie.After-count-kept Inv-loop μ-loop)
     → let n = begun (turn r) .args .state .n - turn r .loop .p in
     (1 ≤ n) × (n ≡ suc (suc (n - 2)))
 more r =
     let i = r .before .before .before .before in
     (omega (trialSizes, i .if2 .taken), omega (trialSizes, i .if2 .taken))
 
-tried : (r : tie.After-try-level Inv-loop μ-loop)
+tried : (r : tie.After-count-kept Inv-loop μ-loop)
     → let a = begun (turn r) .args in
-    r .try-level .last .1 .1 .1 .1 .0
+    r .count-kept .last .1 .1 .1 .1 .0
     ≡ triedCounts (a .state) (a .except) (now (a .values)) (now (a .care)) (now (a .counts)) (turn r .loop .p + 1)
 tried r =
     let l = turn r in
@@ -136,7 +136,7 @@ tried r =
     let k = l .loop .kept in
     trial-counted (a .state) (a .except) (now (a .values)) (now (a .care)) (now (a .counts)) (found l) (s .pre .0) (found-big l)
     (a .state .n - l .loop .p) (l .loop .p) (k .from) (k .entries) (k .above) (l .loop .work) (l .loop .counts) (more r .0)
-    (l .loop .inv .1) (r .try-level .last .1 .1 .1 .1 .0) (r .try-level .ensures .0)
+    (l .loop .inv .1) (r .count-kept .last .1 .1 .1 .1 .0) (r .count-kept .ensures .0)
 
 lower-requires : tie.Need-lower-requires Inv-loop μ-loop
 lower-requires c κs =
@@ -146,7 +146,7 @@ lower-requires c κs =
     let a = s .args in
     let k = l .loop .kept in
     let d = a .state .n - l .loop .p - 2 in
-    let q = r .try-level in
+    let q = r .count-kept in
     lower-asks (a .state) (a .except) (now (a .values)) (now (a .care)) (now (a .counts)) (found l) (s .pre .0) (found-big l)
     d (l .loop .p) (k .from) (k .entries) (k .above) (l .loop .work) (l .loop .counts) (down l (suc (suc d)) (more r .1))
     (q .last .1 .1 .1 .1 .1 .0) (q .last .1 .1 .1 .1 .0) (q .ensures .1 .0) (q .ensures .1 .1)
@@ -171,7 +171,7 @@ loop-again c =
     let a = s .args in
     let k = l .loop .kept in
     let d = a .state .n - l .loop .p - 2 in
-    let q = r .try-level in
+    let q = r .count-kept in
     let v = w .result in
     let m = w .last .1 .1 .1 .0 in
     let i = r .before .before .before .before in
@@ -187,27 +187,27 @@ loop-again c =
           (v .from) (v .entries) (v .above) m (q .last .1 .1 .1 .1 .0)) e t,
     )
 
-try-level-requires-2 : tie.Need-try-level-requires-2 Inv-loop μ-loop
-try-level-requires-2 c κs =
+count-kept-requires-2 : tie.Need-count-kept-requires-2 Inv-loop μ-loop
+count-kept-requires-2 c κs =
     let o = c .before .before in
     let l = o .before .before in
     asks l 1 (omega (trialSizes, o .if2 .left, l .loop .inv .0)) (omega trialSizes)
 
 same-length-2 : tie.Need-same-length-2 Inv-loop μ-loop
 same-length-2 c =
-    let r = c .before .before .before .before .try-level2 in
+    let r = c .before .before .before .before .count-kept2 in
     let l = c .before .before .before .before .before .before .before .before .before in
     r .kept .1 .1 .1 .1 .0 ∙ l .loop .inv .1 .found-same
 
 same-length-3 : tie.Need-same-length-3 Inv-loop μ-loop
 same-length-3 c =
-    let r = c .before .before .before .before .try-level2 in
+    let r = c .before .before .before .before .count-kept2 in
     let l = c .before .before .before .before .before .before .before .before .before in
     r .kept .1 .1 .1 .1 .1 .0 ∙ l .loop .inv .1 .same ∙ l .before .before .before .before .before .first-kept .kept .1 .1 .1 .0
 
 returns-2 : tie.Need-returns-2 Inv-loop μ-loop
 returns-2 c =
-    let r = c .before .before .before .before .try-level2 in
+    let r = c .before .before .before .before .count-kept2 in
     let o = c .before .before .before .before .before .before .before in
     let l = o .before .before in
     let s = begun l in
@@ -233,15 +233,15 @@ try-held-spec =
     returns
     loop-holds
     add-if2
-    sub-try-level
-    try-level-requires
+    sub-count-kept
+    count-kept-requires
     sub-lower
     sub-lower-2
     lower-requires
     add-p
     loop-less
     loop-again
-    try-level-requires-2
+    count-kept-requires-2
     same-length-2
     same-length-3
     returns-2)

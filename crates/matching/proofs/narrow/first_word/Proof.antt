@@ -53,28 +53,28 @@ small c =
     let a = s .args in
     omega (arith, c .loop-test .taken, twice-le (a .k) (a .w) (length (now (a .region))) (s .pre .0 .0) (omega (arith, s .pre .1)))
 
-add-word-at : tie.Need-add-word-at Inv-loop μ-loop
-add-word-at c = omega (arith, in-region c)
+add-eight-bytes : tie.Need-add-eight-bytes Inv-loop μ-loop
+add-eight-bytes c = omega (arith, in-region c)
 
-word-at-requires : tie.Need-word-at-requires Inv-loop μ-loop
-word-at-requires c κs = omega (arith, in-region c)
+eight-bytes-requires : tie.Need-eight-bytes-requires Inv-loop μ-loop
+eight-bytes-requires c κs = omega (arith, in-region c)
 
-word-at-requires-2 : tie.Need-word-at-requires-2 Inv-loop μ-loop
-word-at-requires-2 c κs = omega (arith, in-region (c .before))
+eight-bytes-requires-2 : tie.Need-eight-bytes-requires-2 Inv-loop μ-loop
+eight-bytes-requires-2 c κs = omega (arith, in-region (c .before))
 
 -- the tests of the entry's words
-abbrev shared : tie.After-word-at2 Inv-loop μ-loop → ℕ
-shared u = bitAnd (begun (u .before .before) .args .c) (u .before .word-at .result)
+abbrev shared : tie.After-eight-bytes2 Inv-loop μ-loop → ℕ
+shared u = bitAnd (begun (u .before .before) .args .c) (u .before .eight-bytes .result)
 
-abbrev unlike : tie.After-word-at2 Inv-loop μ-loop → ℕ
-unlike u = bitAnd (bitXor (begun (u .before .before) .args .f) (u .word-at2 .result)) (shared u)
+abbrev unlike : tie.After-eight-bytes2 Inv-loop μ-loop → ℕ
+unlike u = bitAnd (bitXor (begun (u .before .before) .args .f) (u .eight-bytes2 .result)) (shared u)
 
-abbrev Tested : Bool → tie.After-word-at2 Inv-loop μ-loop → Bool → Type 0
+abbrev Tested : Bool → tie.After-eight-bytes2 Inv-loop μ-loop → Bool → Type 0
 Tested i u b =
     let a = begun (u .before .before) .args in
     agreePart i (a .w) (partOf (a .w) (a .f) (a .c)) (partOn (a .w) (now (a .region)) (u .before .before .before .loop .e)) ≡ b
 
-module _ (u : tie.After-word-at2 Inv-loop μ-loop) (i : Bool) where
+module _ (u : tie.After-eight-bytes2 Inv-loop μ-loop) (i : Bool) where
   agreed : unlike u ≡ cond i (shared u) 0 → Tested i u true
   agreed =
       let c = u .before .before in
@@ -83,7 +83,7 @@ module _ (u : tie.After-word-at2 Inv-loop μ-loop) (i : Bool) where
       let l = c .before .loop in
       agrees (a .w) (a .f) (a .c) (now (a .region)) (λ i. c .before .before .shared-slice-known .given i .fits) (s .pre .0 .1) (a .k)
       (l .e) (l .a) (s .pre .1) (c .loop-test .taken) (l .inv .1) (s .pre .0 .2) i (unlike u) (shared u)
-      (ap (λ (x : ℕ). bitAnd (bitXor (a .f) x) (shared u)) (u .word-at2 .ensures)) (ap (bitAnd (a .c)) (u .before .word-at .ensures))
+      (ap (λ (x : ℕ). bitAnd (bitXor (a .f) x) (shared u)) (u .eight-bytes2 .ensures)) (ap (bitAnd (a .c)) (u .before .eight-bytes .ensures))
 
   differed : (unlike u ≡ cond i (shared u) 0 → ⊥) → Tested i u false
   differed =
@@ -93,10 +93,10 @@ module _ (u : tie.After-word-at2 Inv-loop μ-loop) (i : Bool) where
       let l = c .before .loop in
       differs (a .w) (a .f) (a .c) (now (a .region)) (λ i. c .before .before .shared-slice-known .given i .fits) (s .pre .0 .1) (a .k)
       (l .e) (l .a) (s .pre .1) (c .loop-test .taken) (l .inv .1) (s .pre .0 .2) i (unlike u) (shared u)
-      (ap (λ (x : ℕ). bitAnd (bitXor (a .f) x) (shared u)) (u .word-at2 .ensures)) (ap (bitAnd (a .c)) (u .before .word-at .ensures))
+      (ap (λ (x : ℕ). bitAnd (bitXor (a .f) x) (shared u)) (u .eight-bytes2 .ensures)) (ap (bitAnd (a .c)) (u .before .eight-bytes .ensures))
 
 -- the link to the entry
-found : (i : Bool) (u : tie.After-word-at2 Inv-loop μ-loop)
+found : (i : Bool) (u : tie.After-eight-bytes2 Inv-loop μ-loop)
     → let c = u .before .before in
     let a = begun c .args in
     First i (a .w) (partOf (a .w) (a .f) (a .c)) (partOn (a .w) (now (a .region)) (c .before .loop .e))
@@ -169,9 +169,9 @@ first-word-spec =
     Inv-loop
     μ-loop
     loop-holds
-    add-word-at
-    word-at-requires
-    word-at-requires-2
+    add-eight-bytes
+    eight-bytes-requires
+    eight-bytes-requires-2
     add-result
     mul-result
     returns

@@ -27,26 +27,26 @@ within c =
     let e : width (suc (a .d)) ≡ 16 = ap (λ (n : ℕ). width (suc n)) (c .before .if1 .taken) in
     omega (arith, s .pre .1, c .where-true .ensures, digit-part-le (a .b) 8)
 
-add-word-at : tie.Need-add-word-at
-add-word-at c = omega (arith, within c)
+add-eight-bytes : tie.Need-add-eight-bytes
+add-eight-bytes c = omega (arith, within c)
 
-word-at-requires : tie.Need-word-at-requires
-word-at-requires c κs = omega (arith, within c)
+eight-bytes-requires : tie.Need-eight-bytes-requires
+eight-bytes-requires c κs = omega (arith, within c)
 
 returns : tie.Need-returns
 returns c =
     let t = c .before in
     let k = t .before .before in
     let a = k .before .args in
-    c .word-at .ensures
+    c .eight-bytes .ensures
     ∙ half-is-word (a .b) (a .d) (a .a) (now (a .work)) (λ i. k .shared-slice-known .given i .fits) (t .where-true .result)
     (t .before .if1 .taken) (t .where-true .ensures)
 
 shl-rows : tie.Need-shl-rows
 shl-rows c = search needs
 
-word-at-requires-2 : tie.Need-word-at-requires-2
-word-at-requires-2 c κs = search needs
+eight-bytes-requires-2 : tie.Need-eight-bytes-requires-2
+eight-bytes-requires-2 c κs = search needs
 
 where-true-requires-2 : tie.Need-where-true-requires-2
 where-true-requires-2 c κs = search needs
@@ -62,12 +62,12 @@ masked : (c : tie.After-where-true2)
     → let a = c .before .before .before .before .args in
     let r = 1 * 2 ^ a .d % 2 ^ 64 in
     let s = c .where-true2 .result in
-    let x = c .before .word-at2 .result in
+    let x = c .before .eight-bytes2 .result in
     (r < 64) × (s < 64) × (1 ≤ 1 * 2 ^ r % 2 ^ 64) × (bitAnd (x / 2 ^ s) (1 * 2 ^ r % 2 ^ 64 - 1) ≡ halfByte (a .b) (a .d) x)
 masked c =
     let e = c .before .before in
     let a = e .before .before .args in
-    half-masked (a .b) (a .d) (1 * 2 ^ a .d % 2 ^ 64) (c .where-true2 .result) (c .before .word-at2 .result) (few e)
+    half-masked (a .b) (a .d) (1 * 2 ^ a .d % 2 ^ 64) (c .where-true2 .result) (c .before .eight-bytes2 .result) (few e)
     (one-shifted (a .d) (omega (arith, few e))) (c .where-true2 .ensures)
 
 shr-result : tie.Need-shr-result
@@ -84,7 +84,7 @@ returns-2 c =
     let u = c .before in
     let k = u .before .before in
     let a = k .before .args in
-    masked c .3 ∙ ap (halfByte (a .b) (a .d)) (u .word-at2 .ensures)
+    masked c .3 ∙ ap (halfByte (a .b) (a .d)) (u .eight-bytes2 .ensures)
     ∙ half-in-word (a .b) (a .d) (a .a) (now (a .work)) (λ i. k .shared-slice-known .given i .fits) (few (u .before))
 
 pub half-word-spec : {M : Type 1} → statement M
@@ -92,11 +92,11 @@ half-word-spec =
     tie.close
     (tie.spec
     where-true-requires
-    add-word-at
-    word-at-requires
+    add-eight-bytes
+    eight-bytes-requires
     returns
     shl-rows
-    word-at-requires-2
+    eight-bytes-requires-2
     where-true-requires-2
     shr-result
     shl-result

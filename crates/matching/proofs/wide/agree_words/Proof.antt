@@ -33,29 +33,29 @@ loop-holds c = (zero-le, refl, refl, refl)
 whole : (c : tie.In-loop Inv-loop μ-loop) → c .before .loop .j + 8 ≤ c .before .before .before .before .args .w
 whole c = omega (arith, c .loop-test .taken, c .before .loop .inv .1, c .before .before .before .before .pre .0)
 
-add-word-at : tie.Need-add-word-at Inv-loop μ-loop
-add-word-at c = omega (arith, whole c)
+add-eight-bytes : tie.Need-add-eight-bytes Inv-loop μ-loop
+add-eight-bytes c = omega (arith, whole c)
 
-word-at-requires : tie.Need-word-at-requires Inv-loop μ-loop
-word-at-requires c κs = omega (arith, whole c)
+eight-bytes-requires : tie.Need-eight-bytes-requires Inv-loop μ-loop
+eight-bytes-requires c κs = omega (arith, whole c)
 
-add-word-at-2 : tie.Need-add-word-at-2 Inv-loop μ-loop
-add-word-at-2 c = omega (arith, whole (c .before))
+add-eight-bytes-2 : tie.Need-add-eight-bytes-2 Inv-loop μ-loop
+add-eight-bytes-2 c = omega (arith, whole (c .before))
 
-add-word-at-3 : tie.Need-add-word-at-3 Inv-loop μ-loop
-add-word-at-3 c = omega (arith, whole (c .before))
+add-eight-bytes-3 : tie.Need-add-eight-bytes-3 Inv-loop μ-loop
+add-eight-bytes-3 c = omega (arith, whole (c .before))
 
-word-at-requires-2 : tie.Need-word-at-requires-2 Inv-loop μ-loop
-word-at-requires-2 c κs = omega (arith, whole (c .before))
+eight-bytes-requires-2 : tie.Need-eight-bytes-requires-2 Inv-loop μ-loop
+eight-bytes-requires-2 c κs = omega (arith, whole (c .before))
 
-word-at-requires-3 : tie.Need-word-at-requires-3 Inv-loop μ-loop
-word-at-requires-3 c κs = omega (arith, whole (c .before .before))
+eight-bytes-requires-3 : tie.Need-eight-bytes-requires-3 Inv-loop μ-loop
+eight-bytes-requires-3 c κs = omega (arith, whole (c .before .before))
 
-add-word-at-4 : tie.Need-add-word-at-4 Inv-loop μ-loop
-add-word-at-4 c = omega (arith, whole (c .before .before .before))
+add-eight-bytes-4 : tie.Need-add-eight-bytes-4 Inv-loop μ-loop
+add-eight-bytes-4 c = omega (arith, whole (c .before .before .before))
 
-word-at-requires-4 : tie.Need-word-at-requires-4 Inv-loop μ-loop
-word-at-requires-4 c κs = omega (arith, whole (c .before .before .before))
+eight-bytes-requires-4 : tie.Need-eight-bytes-requires-4 Inv-loop μ-loop
+eight-bytes-requires-4 c κs = omega (arith, whole (c .before .before .before))
 
 add-j : tie.Need-add-j Inv-loop μ-loop
 add-j c = omega (arith, whole (c .before .before .before .before))
@@ -71,10 +71,10 @@ loop-again c =
     let a = s .args in
     let f = now (a .f) in
     let r = now (a .region) in
-    let both = bitAnd (c .before .before .before .word-at .result) (c .before .before .word-at2 .result) in
-    let differ = bitAnd (bitXor (c .before .word-at3 .result) (c .word-at4 .result)) both in
-    let is-b = ap₂ bitAnd (c .before .before .before .word-at .ensures) (c .before .before .word-at2 .ensures) in
-    let is-d = ap₂ (λ (x y : ℕ). bitAnd (bitXor x y) both) (c .before .word-at3 .ensures) (c .word-at4 .ensures) in
+    let both = bitAnd (c .before .before .before .eight-bytes .result) (c .before .before .eight-bytes2 .result) in
+    let differ = bitAnd (bitXor (c .before .eight-bytes3 .result) (c .eight-bytes4 .result)) both in
+    let is-b = ap₂ bitAnd (c .before .before .before .eight-bytes .ensures) (c .before .before .eight-bytes2 .ensures) in
+    let is-d = ap₂ (λ (x y : ℕ). bitAnd (bitXor x y) both) (c .before .eight-bytes3 .ensures) (c .eight-bytes4 .ensures) in
     let turn = gathered (a .w) f r (a .a) (l .j) (λ n. i .before .before .before .shared-slice-known .given n .fits)
     (λ n. i .before .before .shared-slice-known2 .given n .fits) (s .pre .1 .0) (s .pre .1 .1) (whole i) in (
       omega (arith, whole i),
@@ -126,14 +126,14 @@ agree-words-spec =
     Inv-loop
     μ-loop
     loop-holds
-    add-word-at
-    word-at-requires
-    add-word-at-2
-    add-word-at-3
-    word-at-requires-2
-    word-at-requires-3
-    add-word-at-4
-    word-at-requires-4
+    add-eight-bytes
+    eight-bytes-requires
+    add-eight-bytes-2
+    add-eight-bytes-3
+    eight-bytes-requires-2
+    eight-bytes-requires-3
+    add-eight-bytes-4
+    eight-bytes-requires-4
     add-j
     loop-less
     loop-again

@@ -6,13 +6,13 @@ use mathlib.Core.Path.{_≡_, ap, ap₂, _∙_}
 use Prim.Native.Nat.{ℕ, _+_, _*_, _-_, _%_, _^_, _≤_, _<_}
 use native.Mathlib.Omega.{arith}
 use lib.ListN.{getD, take, drop}
-use Rattle.matching.specs.inner.Words.{wordOf}
+use Rattle.matching.specs.inner.Words.{numberOf}
 use Rattle.matching.proofs.Wordwise.Bytes.{word-below}
 use Rattle.matching.proofs.words.part_word.Statement.{statement}
 use Rattle.matching.proofs.words.part_word.Tie as tie
 
 abbrev Inv-loop : tie.InvT-loop
-Inv-loop w s a x₀ j₀ x j = (j ≤ w) × (x ≡ wordOf (take (w - j) (drop (a + j) s)))
+Inv-loop w s a x₀ j₀ x j = (j ≤ w) × (x ≡ numberOf (take (w - j) (drop (a + j) s)))
 
 abbrev μ-loop : tie.MeasureT-loop
 μ-loop w s a x₀ j₀ x j = j
@@ -21,7 +21,7 @@ loop-holds : tie.Need-loop-holds Inv-loop μ-loop
 loop-holds c =
     let a = c .args in
     let e : 0 ≡ a .w - a .w = omega arith in
-    (search needs, ap (λ (n : ℕ). wordOf (take n (drop (a .a + a .w) (now (a .s))))) e)
+    (search needs, ap (λ (n : ℕ). numberOf (take n (drop (a .a + a .w) (now (a .s))))) e)
 
 sub-j : tie.Need-sub-j Inv-loop μ-loop
 sub-j c = search needs
@@ -38,7 +38,7 @@ more : (c : tie.After-shared-slice-known Inv-loop μ-loop)
     let a = c .before .before .before .args in
     (l .x * 256 % 2 ^ 64 + getD (now (a .s)) (a .a + (l .j - 1)) 0 < 2 ^ 64)
     × (l .x * 256 % 2 ^ 64 + getD (now (a .s)) (a .a + (l .j - 1)) 0
-    ≡ wordOf (take (a .w - (l .j - 1)) (drop (a .a + (l .j - 1)) (now (a .s)))))
+    ≡ numberOf (take (a .w - (l .j - 1)) (drop (a .a + (l .j - 1)) (now (a .s)))))
 more c =
     let l = c .before .before .loop in
     let s = c .before .before .before in
@@ -65,7 +65,7 @@ returns c =
     let z : l .j ≡ 0 = omega arith in
     let m : a .w - l .j ≡ a .w = omega arith in
     let n : a .a + l .j ≡ a .a = omega arith in
-    l .inv .1 ∙ ap₂ (λ (x y : ℕ). wordOf (take x (drop y (now (a .s))))) m n
+    l .inv .1 ∙ ap₂ (λ (x y : ℕ). numberOf (take x (drop y (now (a .s))))) m n
 
 pub part-word-spec : {M : Type 1} → statement M
 part-word-spec =

@@ -8,7 +8,7 @@ use Rattle.network.proofs.build.build.Tie as tie
 use Rattle.network.proofs.build.build.Reads as reads
 use Rattle.network.proofs.build.build.Lts as lts
 use Rattle.fill.proofs.clear.Reads as clear-reads
-use Rattle.fill.proofs.links.Reads as links-reads
+use Rattle.fill.proofs.fill_table.Reads as links-reads
 use Rattle.network.proofs.reading.lay_out.Reads as lay-out-reads
 use Rattle.network.proofs.build.with_network.Reads as with-network-reads
 
@@ -17,8 +17,8 @@ returns c =
     let a = c .before .before .before .before .before .before .args in
     short-case (a .state) (now (a .values)) (now (a .care)) (now (a .work)) (now (a .roots)) (now (a .cells)) (c .if1 .taken)
 
-links-requires : tie.Need-links-requires
-links-requires c κs = search needs
+fill-table-requires : tie.Need-fill-table-requires
+fill-table-requires c κs = search needs
 
 enum-known-answer : tie.Need-enum-known-answer
 enum-known-answer c = search needs
@@ -29,7 +29,7 @@ same-length c = search needs
 returns-2 : tie.Need-returns-2
 returns-2 c =
     let a = c .before .before .before .before .before .before .before .before .before .before .before .args in
-    let k = c .before .before .before .links in
+    let k = c .before .before .before .fill-table in
     refused-case (a .state) (now (a .values)) (now (a .care)) (now (a .work)) (now (a .roots)) (now (a .cells))
     (c .before .before .before .before .before .if1 .left) (k .result)
     (k .last .1 .1 .1 .0) (k .ensures .0) (k .ensures .1) (c .match .keys2)
@@ -46,7 +46,7 @@ returns-3 c =
     let v = q .before .before .before .before .before .before in
     let u = v .before .before in
     let a = u .before .before .before .before .before .before .args in
-    let k = v .links in
+    let k = v .fill-table in
     let g = q .before .before .answer .given in
     small-case (a .state) (now (a .values)) (now (a .care)) (now (a .work)) (now (a .roots)) (now (a .cells)) (u .if1 .left)
     (k .result) (k .last .1 .1 .1 .0) (k .ensures .0) (k .ensures .1) (g .0 .0) (g .1) (q .if2 .taken) (c .before .before .clear .last .0)
@@ -58,7 +58,7 @@ lay-out-requires c κs =
     let v = q .before .before .before .before .before .before in
     let u = v .before .before in
     let a = u .before .before .before .before .before .before .args in
-    let k = v .links in
+    let k = v .fill-table in
     let g = q .before .before .answer .given in
     ready (a .state) (now (a .values)) (now (a .care)) (now (a .work)) (now (a .roots)) (now (a .cells)) (u .if1 .left) (k .result)
     (k .last .1 .1 .1 .0) (k .ensures .0) (k .ensures .1) (g .0 .0) (g .1) (q .if2 .left)
@@ -82,7 +82,7 @@ returns-4 c =
     let v = q .before .before .before .before .before .before in
     let u = v .before .before in
     let a = u .before .before .before .before .before .before .args in
-    let k = v .links in
+    let k = v .fill-table in
     let g = q .before .before .answer .given in
     let y = p .lay-out in
     built-case (a .state) (now (a .values)) (now (a .care)) (now (a .work)) (now (a .roots)) (now (a .cells)) (u .if1 .left)
@@ -95,7 +95,7 @@ build-spec =
     tie.close
     (tie.spec
     returns
-    links-requires
+    fill-table-requires
     enum-known-answer
     same-length
     returns-2

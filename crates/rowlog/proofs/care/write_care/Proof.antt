@@ -8,12 +8,12 @@ use Rattle.lists.specs.Written.{over}
 use Rattle.lists.proofs.Written.Over.{over-next}
 use Rattle.table.specs.Calls.{planeSize}
 use Rattle.table.proofs.Planes.PlaneSize.{plane-size, plane-length, plane-whole}
-use Rattle.rowlog.specs.inner.Care.{careByte}
+use Rattle.rowlog.specs.inner.Care.{countedByte}
 use Rattle.rowlog.proofs.care.write_care.Statement.{statement}
 use Rattle.rowlog.proofs.care.write_care.Tie as tie
 
 abbrev Inv-loop : tie.InvT-loop
-Inv-loop counts least n end care₀ i₀ care i = (i ≤ planeSize) × (care ≡ over (careByte counts least n end) i care₀)
+Inv-loop counts least n end care₀ i₀ care i = (i ≤ planeSize) × (care ≡ over (countedByte counts least n end) i care₀)
 
 abbrev μ-loop : tie.MeasureT-loop
 μ-loop counts least n end care₀ i₀ care i = planeSize - i
@@ -32,7 +32,7 @@ slice-write-care c =
     omega (
       arith,
       plane-size,
-      plane-length (careByte (now (a .counts)) (a .least) (a .n) (a .end)) (now (a .care)) (l .care) (l .i) (l .inv .1) (l .inv .0)
+      plane-length (countedByte (now (a .counts)) (a .least) (a .n) (a .end)) (now (a .care)) (l .care) (l .i) (l .inv .1) (l .inv .0)
           (b .pre .1),
     )
 
@@ -48,7 +48,7 @@ loop-again c =
     let b = c .before .before .before .before .before in
     let a = b .args in (
       omega (arith, plane-size),
-      over-next (careByte (now (a .counts)) (a .least) (a .n) (a .end)) (now (a .care)) (l .care) (l .i) (c .care-byte .result)
+      over-next (countedByte (now (a .counts)) (a .least) (a .n) (a .end)) (now (a .care)) (l .care) (l .i) (c .care-byte .result)
           (omega (arith, plane-size, b .pre .1)) (l .inv .1) (c .care-byte .ensures),
     )
 
@@ -57,14 +57,14 @@ same-length c =
     let l = c .before .loop in
     let b = c .before .before .before .before in
     let a = b .args in
-    plane-length (careByte (now (a .counts)) (a .least) (a .n) (a .end)) (now (a .care)) (l .care) (l .i) (l .inv .1) (l .inv .0)
+    plane-length (countedByte (now (a .counts)) (a .least) (a .n) (a .end)) (now (a .care)) (l .care) (l .i) (l .inv .1) (l .inv .0)
     (b .pre .1)
 
 returns : tie.Need-returns Inv-loop μ-loop
 returns c =
     let l = c .before .loop in
     let a = c .before .before .before .before .args in
-    plane-whole (careByte (now (a .counts)) (a .least) (a .n) (a .end)) (now (a .care)) (l .care) (l .i) (l .inv .1) (l .inv .0)
+    plane-whole (countedByte (now (a .counts)) (a .least) (a .n) (a .end)) (now (a .care)) (l .care) (l .i) (l .inv .1) (l .inv .0)
     (omega (arith, plane-size))
 
 pub write-care-spec : {M : Type 1} → statement M

@@ -17,7 +17,7 @@ use Rattle.table.specs.State.{orderOf}
 use Rattle.table.specs.Calls.{planeSize}
 use Rattle.table.proofs.Files.Answers.{shifted-out}
 use Rattle.table.proofs.Held.{held-heading, heading-inputs, few-outputs}
-use Rattle.rowlog.specs.inner.Care.{careByte}
+use Rattle.rowlog.specs.inner.Care.{countedByte}
 use Rattle.rowlog.proofs.Counting.{all-more-below, seen-most, row-within}
 use Rattle.rowlog.proofs.Answered.{Passed, passed, log-refused, log-done}
 use Rattle.rowlog.proofs.log.log_rows.Statement.{statement}
@@ -97,7 +97,7 @@ returns-2 c =
     log-done (a .state) (now (a .rows)) (now (a .counts)) (now (a .care)) (a .least) (e .before .before .log-answer .result)
     (e .before .before .log-answer .ensures) (is-good e) _ _ (x .ensures)
     (w .ensures
-    ∙ ap (λ (k : ℕ). over (careByte (x .last .1 .0) (a .least) (a .state .n) k) planeSize (now (a .care))) (stream-end e))
+    ∙ ap (λ (k : ℕ). over (countedByte (x .last .1 .0) (a .least) (a .state .n) k) planeSize (now (a .care))) (stream-end e))
 
 pub log-rows-spec : {M : Type 1} → statement M
 log-rows-spec =

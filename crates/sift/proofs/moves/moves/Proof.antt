@@ -15,13 +15,13 @@ use Rattle.sift.proofs.Reporting.MovesOutcome.{moves-short, moves-no-ta
 use Rattle.sift.proofs.moves.moves.Statement.{statement}
 use Rattle.sift.proofs.moves.moves.Tie as tie
 
-has-room-requires : tie.Need-has-room-requires
-has-room-requires c κs = search needs
+lent-enough-requires : tie.Need-lent-enough-requires
+lent-enough-requires c κs = search needs
 
 returns : tie.Need-returns
 returns c =
     let a = c .before .before .before .before .before .args in
-    let m = c .before .has-room in
+    let m = c .before .lent-enough in
     moves-short (a .state) (now (a .gains)) (now (a .values)) (now (a .care)) (now (a .work))
     (sym (m .ensures) ∙ not-true (m .result) (c .if1 .taken))
 
@@ -31,7 +31,7 @@ holds-table-requires c κs = search needs
 returns-2 : tie.Need-returns-2
 returns-2 c =
     let a = c .before .before .before .before .before .before .before .args in
-    let m = c .before .before .before .has-room in
+    let m = c .before .before .before .lent-enough in
     let h = c .before .holds-table in
     moves-no-table (a .state) (now (a .gains)) (now (a .values)) (now (a .care)) (now (a .work))
     (sym (m .ensures) ∙ not-false (m .result) (c .before .before .if1 .left)) (sym (h .ensures) ∙ not-true (h .result) (c .if2 .taken))
@@ -42,7 +42,7 @@ abbrev begun : tie.Else2 → tie.Start
 begun k = k .before .before .before .before .before .before .before
 
 long : (k : tie.Else2) → let a = begun k .args in enough (now (a .values)) (now (a .care)) (now (a .work)) ≡ true
-long k = let m = k .before .before .before .has-room in sym (m .ensures) ∙ not-false (m .result) (k .before .before .if1 .left)
+long k = let m = k .before .before .before .lent-enough in sym (m .ensures) ∙ not-false (m .result) (k .before .before .if1 .left)
 
 held : (k : tie.Else2) → not (isNothing (stageOf (begun k .args .state))) ≡ true
 held k = let h = k .before .holds-table in sym (h .ensures) ∙ not-false (h .result) (k .if2 .left)
@@ -82,7 +82,7 @@ pub moves-spec : {M : Type 1} → statement M
 moves-spec =
     tie.close
     (tie.spec
-    has-room-requires
+    lent-enough-requires
     returns
     holds-table-requires
     returns-2

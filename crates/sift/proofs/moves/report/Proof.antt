@@ -30,22 +30,22 @@ Inv-loop state gains₀ values care work₀ known present n v₀ gains work v =
 abbrev μ-loop : tie.MeasureT-loop
 μ-loop state gains₀ values care work₀ known present n v₀ gains work v = state .n - v
 
-counts-requires : tie.Need-counts-requires Inv-loop μ-loop
-counts-requires c κs = search needs
+count-levels-requires : tie.Need-count-levels-requires Inv-loop μ-loop
+count-levels-requires c κs = search needs
 
 value-of-requires : tie.Need-value-of-requires Inv-loop μ-loop
 value-of-requires c κs = search needs
 
-abbrev begun : tie.After-counts Inv-loop μ-loop → tie.Start Inv-loop μ-loop
+abbrev begun : tie.After-count-levels Inv-loop μ-loop → tie.Start Inv-loop μ-loop
 begun k = k .before .before .before .before .before
 
 -- what the count left
 
-zeroed : (k : tie.After-counts Inv-loop μ-loop) → k .counts .last .1 .1 .1 .0 ≡ zeroWork (now (begun k .args .work))
+zeroed : (k : tie.After-count-levels Inv-loop μ-loop) → k .count-levels .last .1 .1 .1 .0 ≡ zeroWork (now (begun k .args .work))
 zeroed k =
     let s = begun k in
     let a = s .args in
-    k .counts .ensures .1 ∙ counted-work (a .state) (now (a .values)) (now (a .care)) (now (a .work)) (s .pre .0) (s .pre .1 .0)
+    k .count-levels .ensures .1 ∙ counted-work (a .state) (now (a .values)) (now (a .care)) (now (a .work)) (s .pre .0) (s .pre .1 .0)
 
 loop-holds : tie.Need-loop-holds Inv-loop μ-loop
 loop-holds c =
@@ -109,15 +109,15 @@ report-variable-requires c κs =
     let vs = now (a .values) in
     let cs = now (a .care) in
     let l = f .before .loop in (
-      enough-again vs cs (now (a .work)) (l .work) (s .pre .0) (ap length (l .inv .1 .1 .1) ∙ k .counts .kept .1 .1 .1 .0),
+      enough-again vs cs (now (a .work)) (l .work) (s .pre .0) (ap length (l .inv .1 .1 .1) ∙ k .count-levels .kept .1 .1 .1 .0),
       (
         held-heading (a .state) (s .pre .1 .0),
         (
           (f .loop-test .taken, omega (arith, row-length f)),
           (
-            ap (λ (x : Levels). x .counts) (k .counts .ensures .0) ∙ counted-levels (a .state) vs cs (now (a .work)) (s .pre .0) (s .pre .1 .0),
+            ap (λ (x : Levels). x .counts) (k .count-levels .ensures .0) ∙ counted-levels (a .state) vs cs (now (a .work)) (s .pre .0) (s .pre .1 .0),
             f .before .before .value-of .ensures
-                ∙ ap (λ (x : Levels). value (x .answer)) (k .counts .ensures .0)
+                ∙ ap (λ (x : Levels). value (x .answer)) (k .count-levels .ensures .0)
                 ∙ counted-cost (a .state) vs cs (now (a .work)) (s .pre .0) (s .pre .1 .0),
           ),
         ),
@@ -158,7 +158,7 @@ same-length c = c .before .loop .inv .1 .1 .0
 same-length-2 : tie.Need-same-length-2 Inv-loop μ-loop
 same-length-2 c =
     let k = c .before .before .before .before .before .before in
-    ap length (c .before .loop .inv .1 .1 .1) ∙ k .counts .kept .1 .1 .1 .0
+    ap length (c .before .loop .inv .1 .1 .1) ∙ k .count-levels .kept .1 .1 .1 .0
 
 returns : tie.Need-returns Inv-loop μ-loop
 returns c =
@@ -176,7 +176,7 @@ report-spec =
     (tie.spec
     Inv-loop
     μ-loop
-    counts-requires
+    count-levels-requires
     value-of-requires
     loop-holds
     mul-at

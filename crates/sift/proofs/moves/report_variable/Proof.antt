@@ -16,15 +16,15 @@ use Rattle.sift.proofs.Reporting.Report.{counted-row}
 use Rattle.sift.proofs.moves.report_variable.Statement.{statement}
 use Rattle.sift.proofs.moves.report_variable.Tie as tie
 
-slice-aggregate-count-levels : tie.Need-slice-aggregate-count-levels
-slice-aggregate-count-levels c = search needs
+slice-aggregate-count-moves : tie.Need-slice-aggregate-count-moves
+slice-aggregate-count-moves c = search needs
 
-count-levels-requires : tie.Need-count-levels-requires
-count-levels-requires c κs =
+count-moves-requires : tie.Need-count-moves-requires
+count-moves-requires c κs =
     let s = c .before .before .before .before .before in
     (s .pre .0, (s .pre .1 .0, ((s .pre .1 .1 .0 .0, omega (arith, counts-size)), s .pre .1 .1 .1 .0)))
 
-abbrev begun : tie.After-count-levels → tie.Start
+abbrev begun : tie.After-count-moves → tie.Start
 begun k = k .before .before .before .before .before .before
 
 slice-aggregate-write-gains : tie.Need-slice-aggregate-write-gains
@@ -39,7 +39,7 @@ write-gains-requires c κs =
     let vs = now (a .values) in
     let cs = now (a .care) in
     let g = s .pre .1 .0 in
-    let r = k .count-levels in (
+    let r = k .count-moves in (
       (heading-inputs (t .n) (t .m) (orderOf t) g, s .pre .1 .1 .0 .1),
       (
         (
@@ -62,7 +62,7 @@ returns c =
     let k = c .before .before .before .before .before .before .before in
     let s = begun k in
     let a = s .args in
-    let r = k .count-levels in (
+    let r = k .count-moves in (
       counted-row (a .state) (now (a .values)) (now (a .care)) (s .pre .1 .0) (a .v) (s .pre .1 .1 .0 .0)
           (r .last .1 .1 .1 .1 .1 .0) (r .ensures .0) (a .present) (s .pre .1 .1 .1 .1) (now (a .row)) (c .before .write-gains .last .0)
           (c .before .write-gains .ensures),
@@ -73,8 +73,8 @@ pub report-variable-spec : {M : Type 1} → statement M
 report-variable-spec =
     tie.close
     (tie.spec
-    slice-aggregate-count-levels
-    count-levels-requires
+    slice-aggregate-count-moves
+    count-moves-requires
     slice-aggregate-write-gains
     write-gains-requires
     same-length

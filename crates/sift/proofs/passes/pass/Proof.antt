@@ -12,19 +12,19 @@ use Rattle.sift.proofs.passes.pass.Tie as tie
 use Rattle.sift.proofs.passes.pass.Reads as reads
 use Rattle.sift.proofs.passes.pass.Lts as lts
 use Rattle.sift.proofs.passes.run.Reads as run-reads
-use Rattle.sift.proofs.room.has_room.Reads as has-room-reads
+use Rattle.sift.proofs.room.lent_enough.Reads as has-room-reads
 use Rattle.sift.proofs.trials.reorder.Reads as reorder-reads
 use Rattle.table.proofs.valid.holds_table.Reads as holds-table-reads
 
-has-room-requires : tie.Need-has-room-requires
-has-room-requires c κs = search needs
+lent-enough-requires : tie.Need-lent-enough-requires
+lent-enough-requires c κs = search needs
 
 returns : tie.Need-returns
 returns c =
     let a = c .before .before .before .before .before .args in
     let vs = now (a .values) in
     let cs = now (a .care) in
-    let m = c .before .has-room in
+    let m = c .before .lent-enough in
     pass-short (a .state) (a .limit) vs cs (now (a .work)) (sym (m .ensures) ∙ not-true (m .result) (c .if1 .taken))
 
 holds-table-requires : tie.Need-holds-table-requires
@@ -35,7 +35,7 @@ returns-2 c =
     let a = c .before .before .before .before .before .before .before .args in
     let vs = now (a .values) in
     let cs = now (a .care) in
-    let m = c .before .before .before .has-room in
+    let m = c .before .before .before .lent-enough in
     let h = c .before .holds-table in
     pass-no-table (a .state) (a .limit) vs cs (now (a .work)) (sym (m .ensures) ∙ not-false (m .result) (c .before .before .if1 .left))
     (sym (h .ensures) ∙ not-true (h .result) (c .if2 .taken))
@@ -43,7 +43,7 @@ returns-2 c =
 run-requires : tie.Need-run-requires
 run-requires c κs =
     let s = c .before .before .before .before .before .before .before .before in
-    let m = c .before .before .before .before .has-room in
+    let m = c .before .before .before .before .lent-enough in
     let h = c .before .before .holds-table in
     let held = to-T (sym (h .ensures) ∙ not-false (h .result) (c .before .if2 .left)) in (
       to-T (sym (m .ensures) ∙ not-false (m .result) (c .before .before .before .if1 .left)),
@@ -62,7 +62,7 @@ returns-3 c =
     let a = far .before .before .before .before .before .args in
     let vs = now (a .values) in
     let cs = now (a .care) in
-    let m = far .before .has-room in
+    let m = far .before .lent-enough in
     let h = c .before .before .before .before .before .before .before .holds-table in
     let r = c .before .before .before .before .run in
     pass-held (a .state) (a .limit) vs cs (now (a .work)) (sym (m .ensures) ∙ not-false (m .result) (far .if1 .left))
@@ -73,7 +73,7 @@ pub pass-spec : {M : Type 1} → statement M
 pass-spec =
     tie.close
     (tie.spec
-    has-room-requires
+    lent-enough-requires
     returns
     holds-table-requires
     returns-2

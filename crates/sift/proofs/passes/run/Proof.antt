@@ -24,22 +24,22 @@ Inv-loop state limit values care work₀ n progress₀ work progress = Running s
 abbrev μ-loop : tie.MeasureT-loop
 μ-loop state limit values care work₀ n progress₀ work progress = n - progress .turns
 
-counts-requires : tie.Need-counts-requires Inv-loop μ-loop
-counts-requires c κs = search needs
+count-levels-requires : tie.Need-count-levels-requires Inv-loop μ-loop
+count-levels-requires c κs = search needs
 
-abbrev begun : tie.After-counts Inv-loop μ-loop → tie.Start Inv-loop μ-loop
+abbrev begun : tie.After-count-levels Inv-loop μ-loop → tie.Start Inv-loop μ-loop
 begun k = k .before .before .before .before .before
 
-heading : (k : tie.After-counts Inv-loop μ-loop) → let t = begun k .args .state in T (goodHeading (t .n) (t .m) (orderOf t))
+heading : (k : tie.After-count-levels Inv-loop μ-loop) → let t = begun k .args .state in T (goodHeading (t .n) (t .m) (orderOf t))
 heading k = let s = begun k in held-heading (s .args .state) (s .pre .1 .0)
 
 -- what the count left
 
-zeroed : (k : tie.After-counts Inv-loop μ-loop) → k .counts .last .1 .1 .1 .0 ≡ zeroWork (now (begun k .args .work))
+zeroed : (k : tie.After-count-levels Inv-loop μ-loop) → k .count-levels .last .1 .1 .1 .0 ≡ zeroWork (now (begun k .args .work))
 zeroed k =
     let s = begun k in
     let a = s .args in
-    k .counts .ensures .1 ∙ counted-work (a .state) (now (a .values)) (now (a .care)) (now (a .work)) (s .pre .0) (s .pre .1 .0)
+    k .count-levels .ensures .1 ∙ counted-work (a .state) (now (a .values)) (now (a .care)) (now (a .work)) (s .pre .0) (s .pre .1 .0)
 
 loop-holds : tie.Need-loop-holds Inv-loop μ-loop
 loop-holds c =
@@ -48,9 +48,9 @@ loop-holds c =
     let a = s .args in
     let vs = now (a .values) in
     let cs = now (a .care) in
-    let known = ap (λ (x : Levels). x .counts) (k .counts .ensures .0)
+    let known = ap (λ (x : Levels). x .counts) (k .count-levels .ensures .0)
     ∙ counted-levels (a .state) vs cs (now (a .work)) (s .pre .0) (s .pre .1 .0) in
-    (running-start (a .state) (a .limit) vs cs (heading k) (k .counts .result .counts) known _ refl, refl)
+    (running-start (a .state) (a .limit) vs cs (heading k) (k .count-levels .result .counts) known _ refl, refl)
 
 add-if2 : tie.Need-add-if2 Inv-loop μ-loop
 add-if2 c =
@@ -61,7 +61,7 @@ add-if2 c =
 same-length : tie.Need-same-length Inv-loop μ-loop
 same-length c =
     let k = c .before .before .before .before .before .before .before .before .before in
-    ap length (c .before .before .before .before .loop .inv .1) ∙ k .counts .kept .1 .1 .1 .0
+    ap length (c .before .before .before .before .loop .inv .1) ∙ k .count-levels .kept .1 .1 .1 .0
 
 returns : tie.Need-returns Inv-loop μ-loop
 returns c =
@@ -80,7 +80,7 @@ turn-requires c κs =
     let vs = now (a .values) in
     let cs = now (a .care) in
     let l = c .before .before .before .before .before .loop in (
-      enough-again vs cs (now (a .work)) (l .work) (s .pre .0) (ap length (l .inv .1) ∙ k .counts .kept .1 .1 .1 .0),
+      enough-again vs cs (now (a .work)) (l .work) (s .pre .0) (ap length (l .inv .1) ∙ k .count-levels .kept .1 .1 .1 .0),
       (
         running-heading (a .state) (a .limit) vs cs (heading k) (l .progress) (l .inv .0),
         (
@@ -120,7 +120,7 @@ loop-again c =
 same-length-2 : tie.Need-same-length-2 Inv-loop μ-loop
 same-length-2 c =
     let k = c .before .before .before .before .before .before .before in
-    ap length (c .before .before .loop .inv .1) ∙ k .counts .kept .1 .1 .1 .0
+    ap length (c .before .before .loop .inv .1) ∙ k .count-levels .kept .1 .1 .1 .0
 
 returns-2 : tie.Need-returns-2 Inv-loop μ-loop
 returns-2 c =
@@ -138,7 +138,7 @@ run-spec =
     (tie.spec
     Inv-loop
     μ-loop
-    counts-requires
+    count-levels-requires
     loop-holds
     add-if2
     same-length

@@ -19,15 +19,15 @@ use Rattle.sift.proofs.Sifting.SiftOutcome.{sift-short, sift-no-table, 
 use Rattle.sift.proofs.single.sift.Statement.{statement}
 use Rattle.sift.proofs.single.sift.Tie as tie
 
-has-room-requires : tie.Need-has-room-requires
-has-room-requires c κs = search needs
+lent-enough-requires : tie.Need-lent-enough-requires
+lent-enough-requires c κs = search needs
 
 returns : tie.Need-returns
 returns c =
     let a = c .before .before .before .before .before .args in
     let vs = now (a .values) in
     let cs = now (a .care) in
-    let m = c .before .has-room in
+    let m = c .before .lent-enough in
     sift-short (a .state) (a .variable) vs cs (now (a .work)) (sym (m .ensures) ∙ not-true (m .result) (c .if1 .taken))
 
 holds-table-requires : tie.Need-holds-table-requires
@@ -38,7 +38,7 @@ returns-2 c =
     let a = c .before .before .before .before .before .before .before .args in
     let vs = now (a .values) in
     let cs = now (a .care) in
-    let m = c .before .before .before .has-room in
+    let m = c .before .before .before .lent-enough in
     let h = c .before .holds-table in
     sift-no-table (a .state) (a .variable) vs cs (now (a .work)) (sym (m .ensures) ∙ not-false (m .result) (c .before .before .if1 .left))
     (sym (h .ensures) ∙ not-true (h .result) (c .if2 .taken))
@@ -48,33 +48,33 @@ returns-3 c =
     let a = c .before .before .before .before .before .before .before .before .args in
     let vs = now (a .values) in
     let cs = now (a .care) in
-    let m = c .before .before .before .before .has-room in
+    let m = c .before .before .before .before .lent-enough in
     let h = c .before .before .holds-table in
     sift-no-variable (a .state) (a .variable) vs cs (now (a .work))
     (sym (m .ensures) ∙ not-false (m .result) (c .before .before .before .if1 .left))
     (sym (h .ensures) ∙ not-false (h .result) (c .before .if2 .left)) (c .if3 .taken)
 
-counts-requires : tie.Need-counts-requires
-counts-requires c κs = search needs
+count-levels-requires : tie.Need-count-levels-requires
+count-levels-requires c κs = search needs
 
 -- what the tests showed before the count
 
-abbrev begun : tie.After-counts → tie.Start
+abbrev begun : tie.After-count-levels → tie.Start
 begun k = k .before .before .before .before .before .before .before .before .before .before
 
-long : (k : tie.After-counts) → let a = begun k .args in T (enough (now (a .values)) (now (a .care)) (now (a .work)))
+long : (k : tie.After-count-levels) → let a = begun k .args in T (enough (now (a .values)) (now (a .care)) (now (a .work)))
 long k =
     let c = k .before in
-    let m = c .before .before .before .before .before .has-room in
+    let m = c .before .before .before .before .before .lent-enough in
     to-T (sym (m .ensures) ∙ not-false (m .result) (c .before .before .before .before .if1 .left))
 
-held : (k : tie.After-counts) → T (not (isNothing (stageOf (begun k .args .state))))
+held : (k : tie.After-count-levels) → T (not (isNothing (stageOf (begun k .args .state))))
 held k =
     let c = k .before in
     let h = c .before .before .before .holds-table in
     to-T (sym (h .ensures) ∙ not-false (h .result) (c .before .before .if2 .left))
 
-below : (k : tie.After-counts) → begun k .args .variable < begun k .args .state .n
+below : (k : tie.After-count-levels) → begun k .args .variable < begun k .args .state .n
 below k = k .before .before .if3 .left
 
 sift-one-requires : tie.Need-sift-one-requires
@@ -83,7 +83,7 @@ sift-one-requires c κs =
     let a = begun k .args in
     let vs = now (a .values) in
     let cs = now (a .care) in
-    let r = k .counts in (
+    let r = k .count-levels in (
       enough-again vs cs (now (a .work)) (r .last .1 .1 .1 .0) (long k) (r .kept .1 .1 .1 .0),
       (
         held-heading (a .state) (held k),
@@ -127,19 +127,19 @@ returns-4 c =
     sift-done (a .state) (a .variable) vs cs (now (a .work)) (of-T (long k)) (of-T (held k)) (below k) (r .result .best)
     (sifted-best (heldTable (a .state) vs cs) (a .variable) (orderOf (a .state)) (r .result) (r .ensures .0)) (o .result) (o .ensures)
     (c .reorder .result) (c .reorder .ensures) (r .last .1 .1 .1 .1 .1 .0)
-    (zero-still (now (a .work)) (k .counts .last .1 .1 .1 .0) (r .last .1 .1 .1 .1 .1 .0)
-    (k .counts .ensures .1 ∙ counted-work (a .state) vs cs (now (a .work)) (long k) (held k)) (r .ensures .1))
+    (zero-still (now (a .work)) (k .count-levels .last .1 .1 .1 .0) (r .last .1 .1 .1 .1 .1 .0)
+    (k .count-levels .ensures .1 ∙ counted-work (a .state) vs cs (now (a .work)) (long k) (held k)) (r .ensures .1))
 
 pub sift-spec : {M : Type 1} → statement M
 sift-spec =
     tie.close
     (tie.spec
-    has-room-requires
+    lent-enough-requires
     returns
     holds-table-requires
     returns-2
     returns-3
-    counts-requires
+    count-levels-requires
     sift-one-requires
     moved-to-requires
     reorder-requires

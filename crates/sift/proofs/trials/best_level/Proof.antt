@@ -24,25 +24,25 @@ Inv-loop state v values care counts work order best₀ p₀ best p =
 abbrev μ-loop : tie.MeasureT-loop
 μ-loop state v values care counts work order best₀ p₀ best p = state .n - p
 
-count-levels-requires : tie.Need-count-levels-requires Inv-loop μ-loop
-count-levels-requires c κs = search needs
+count-moves-requires : tie.Need-count-moves-requires Inv-loop μ-loop
+count-moves-requires c κs = search needs
 
 loop-holds : tie.Need-loop-holds Inv-loop μ-loop
 loop-holds c = (search needs, refl)
 
-abbrev begun : tie.After-count-levels Inv-loop μ-loop → tie.Start Inv-loop μ-loop
+abbrev begun : tie.After-count-moves Inv-loop μ-loop → tie.Start Inv-loop μ-loop
 begun k = k .before .before .before .before .before .before .before
 
-few : (k : tie.After-count-levels Inv-loop μ-loop) → begun k .args .state .n ≤ mostVariables
+few : (k : tie.After-count-moves Inv-loop μ-loop) → begun k .args .state .n ≤ mostVariables
 few k =
     let s = begun k in
     let t = s .args .state in
     heading-inputs (t .n) (t .m) (orderOf t) (s .pre .1 .0)
 
 -- the counts of each level add up to the cost of the order with v there
-total : (k : tie.After-count-levels Inv-loop μ-loop) (p : ℕ)
+total : (k : tie.After-count-moves Inv-loop μ-loop) (p : ℕ)
     → let a = begun k .args in
-    let cs = countsOf p (k .count-levels .last .1 .1 .1 .1 .1 .0) in
+    let cs = countsOf p (k .count-moves .last .1 .1 .1 .1 .1 .0) in
     p < a .state .n
     → (sum _+_ 0 cs ≡ costAt (heldTable (a .state) (now (a .values)) (now (a .care))) (a .v) (orderOf (a .state)) p)
     × (sum _+_ 0 cs ≤ mostNodes)
@@ -50,7 +50,7 @@ total k p h =
     let s = begun k in
     let a = s .args in
     moved-total (a .state) (now (a .values)) (now (a .care)) (s .pre .1 .0) (a .v) (s .pre .1 .1 .0 .0)
-    (k .count-levels .last .1 .1 .1 .1 .1 .0) (k .count-levels .ensures .0) p h
+    (k .count-moves .last .1 .1 .1 .1 .1 .0) (k .count-moves .ensures .0) p h
 
 total-of-requires : tie.Need-total-of-requires Inv-loop μ-loop
 total-of-requires c κs =
@@ -58,7 +58,7 @@ total-of-requires c κs =
     let s = begun k in
     let l = c .before .before .before .loop in
     let below = c .before .if1 .taken in (
-      (omega (arith, below, few k), omega (arith, s .pre .1 .1 .0 .1, k .count-levels .kept .1 .1 .1 .1 .1 .0)),
+      (omega (arith, below, few k), omega (arith, s .pre .1 .1 .0 .1, k .count-moves .kept .1 .1 .1 .1 .1 .0)),
       total k (l .p) below .1,
     )
 
@@ -122,7 +122,7 @@ returns c =
     let l = c .before .before .loop in (
       best-all (heldTable (a .state) (now (a .values)) (now (a .care))) (a .v) (orderOf (a .state)) (l .p) (l .best)
           (omega (arith, l .inv .0, c .if1 .left)) (omega (arith, s .pre .1 .1 .0 .0)) (l .inv .1),
-      (k .count-levels .ensures .0, k .count-levels .ensures .1),
+      (k .count-moves .ensures .0, k .count-moves .ensures .1),
     )
 
 pub best-level-spec : {M : Type 1} → statement M
@@ -131,7 +131,7 @@ best-level-spec =
     (tie.spec
     Inv-loop
     μ-loop
-    count-levels-requires
+    count-moves-requires
     loop-holds
     total-of-requires
     mul-try-level

@@ -10,11 +10,11 @@ use borrow.Author.Needs.{needs}
 use Rattle.swapping.proofs.exchange.next_level.Statement.{statement}
 use Rattle.swapping.proofs.exchange.next_level.Tie as tie
 
-slice-aggregate-link-level : tie.Need-slice-aggregate-link-level
-slice-aggregate-link-level c = search needs
+slice-aggregate-link-pairs : tie.Need-slice-aggregate-link-pairs
+slice-aggregate-link-pairs c = search needs
 
-link-level-requires : tie.Need-link-level-requires
-link-level-requires c κs = search needs
+link-pairs-requires : tie.Need-link-pairs-requires
+link-pairs-requires c κs = search needs
 
 copy-pairs-requires : tie.Need-copy-pairs-requires
 copy-pairs-requires c κs = search needs
@@ -32,7 +32,7 @@ returns : tie.Need-returns
 returns c =
     let b8 = c .before .before .before .before .before .before .before .before in
     let b16 = b8 .before .before .before .before .before .before .before .before in
-    let k = b8 .before .before .link-level in
+    let k = b8 .before .before .link-pairs in
     let y = c .before .before .copy-pairs in
     let b = b16 .before .before .before in
     let l : length (y .last .1 .1 .0) ≡ length (now (b .args .seen)) = search needs in
@@ -45,8 +45,8 @@ pub next-level-spec : {M : Type 1} → statement M
 next-level-spec =
     tie.close
     (tie.spec
-    slice-aggregate-link-level
-    link-level-requires
+    slice-aggregate-link-pairs
+    link-pairs-requires
     copy-pairs-requires
     same-length
     same-length-2

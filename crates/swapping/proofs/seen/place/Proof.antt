@@ -4,7 +4,7 @@ use mathlib.Core.Path.{sym, ap, _∙_}
 use Prim.Native.Nat.{ℕ, _+_, _*_, _%_}
 use native.Mathlib.Omega.{arith}
 use denote.Ref.{now}
-use Rattle.swapping.specs.inner.Exchange.{slotOf}
+use Rattle.swapping.specs.inner.Exchange.{pairSlot}
 use Rattle.swapping.proofs.PlacedPairs.{constant-shows, constant-link, known-shows, known-link, new-shows, new-link}
 use borrow.Author.Needs.{needs}
 use Rattle.swapping.proofs.seen.place.Statement.{statement}
@@ -35,7 +35,7 @@ find-entry-requires : tie.Need-find-entry-requires
 find-entry-requires c κs =
     let s = c .before .before .slot-of in (
       c .before .before .before .before .opposite-pair .ensures .0,
-      s .ensures .0 ∙ ap slotOf (c .before .before .before .normal-of .ensures .0),
+      s .ensures .0 ∙ ap pairSlot (c .before .before .before .normal-of .ensures .0),
       c .before .before .before .before .before .before .before .before .before .pre .1,
     )
 
@@ -121,7 +121,7 @@ returns-3 c =
     let s = c .before .before .before .before .slot-of in
     let d = c .before .before .before .before .before .normal-of in
     let n = sym (i .before .is-constant .ensures) ∙ i .if1 .left in
-    let e = s .ensures .0 ∙ ap slotOf (d .ensures .0) in (
+    let e = s .ensures .0 ∙ ap pairSlot (d .ensures .0) in (
       new-shows (a .x) (now (a .list)) (now (a .marks)) (a .len) (b .pre .1) n (k .result) (k .ensures) (c .if2 .left) (b .pre .2) (s .result)
           e (s .ensures .1),
       (

@@ -47,8 +47,8 @@ returns-4 c =
     ∙ no-place (a .state) (a .p) (now (a .work)) (now (a .roots)) (now (a .cells)) (i .before .if1 .left) (i .if2 .left) e (Done 0)
     (sym (ap (λ (o : Outcome). done (o .answer)) (k .ensures)) ∙ sym (d .ensures) ∙ not-true (d .result) (c .if4 .taken))
 
-canonical-answer-requires : tie.Need-canonical-answer-requires
-canonical-answer-requires c κs = search needs
+test-held-requires : tie.Need-test-held-requires
+test-held-requires c κs = search needs
 
 returns-5 : tie.Need-returns-5
 returns-5 c =
@@ -59,7 +59,7 @@ returns-5 c =
     let k = v .before .before .swap in
     let d = v .before .is-done in
     let e = sym (u .before .holds-network .ensures) ∙ not-false (u .before .holds-network .result) (u .if3 .left) in
-    c .canonical-answer .ensures
+    c .test-held .ensures
     ∙ then-canonical (a .state) (a .p) (now (a .work)) (now (a .roots)) (now (a .cells)) (i .before .if1 .left) (i .if2 .left) e
     (sym (ap (λ (o : Outcome). done (o .answer)) (k .ensures)) ∙ sym (d .ensures) ∙ not-false (d .result) (v .if4 .left))
 
@@ -74,5 +74,5 @@ swap-checks-spec =
     swap-requires
     is-done-requires
     returns-4
-    canonical-answer-requires
+    test-held-requires
     returns-5)

@@ -5,11 +5,11 @@ use Rattle.text.proofs.Lines.{written-cell}
 use Rattle.text.proofs.held.put_cell.Statement.{statement}
 use Rattle.text.proofs.held.put_cell.Tie as tie
 
-slice-aggregate-put-word : tie.Need-slice-aggregate-put-word
-slice-aggregate-put-word c = search needs
+slice-aggregate-put-keyword : tie.Need-slice-aggregate-put-keyword
+slice-aggregate-put-keyword c = search needs
 
-put-word-requires : tie.Need-put-word-requires
-put-word-requires c κs = search needs
+put-keyword-requires : tie.Need-put-keyword-requires
+put-keyword-requires c κs = search needs
 
 add-put-number : tie.Need-add-put-number
 add-put-number c = search needs
@@ -30,8 +30,8 @@ pub put-cell-spec : {M : Type 1} → statement M
 put-cell-spec =
     tie.close
     (tie.spec
-    slice-aggregate-put-word
-    put-word-requires
+    slice-aggregate-put-keyword
+    put-keyword-requires
     add-put-number
     put-number-requires
     put-node-requires

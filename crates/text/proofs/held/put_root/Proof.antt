@@ -5,11 +5,11 @@ use Rattle.text.proofs.Lines.{written-root}
 use Rattle.text.proofs.held.put_root.Statement.{statement}
 use Rattle.text.proofs.held.put_root.Tie as tie
 
-slice-aggregate-put-word : tie.Need-slice-aggregate-put-word
-slice-aggregate-put-word c = search needs
+slice-aggregate-put-keyword : tie.Need-slice-aggregate-put-keyword
+slice-aggregate-put-keyword c = search needs
 
-put-word-requires : tie.Need-put-word-requires
-put-word-requires c κs = search needs
+put-keyword-requires : tie.Need-put-keyword-requires
+put-keyword-requires c κs = search needs
 
 put-number-requires : tie.Need-put-number-requires
 put-number-requires c κs = search needs
@@ -33,8 +33,8 @@ pub put-root-spec : {M : Type 1} → statement M
 put-root-spec =
     tie.close
     (tie.spec
-    slice-aggregate-put-word
-    put-word-requires
+    slice-aggregate-put-keyword
+    put-keyword-requires
     put-number-requires
     lent-number-requires
     put-number-requires-2

@@ -5,11 +5,11 @@ use Rattle.text.proofs.Lines.{written-order}
 use Rattle.text.proofs.line.put_order.Statement.{statement}
 use Rattle.text.proofs.line.put_order.Tie as tie
 
-slice-aggregate-put-word : tie.Need-slice-aggregate-put-word
-slice-aggregate-put-word c = search needs
+slice-aggregate-put-keyword : tie.Need-slice-aggregate-put-keyword
+slice-aggregate-put-keyword c = search needs
 
-put-word-requires : tie.Need-put-word-requires
-put-word-requires c κs = search needs
+put-keyword-requires : tie.Need-put-keyword-requires
+put-keyword-requires c κs = search needs
 
 entries-of-requires : tie.Need-entries-of-requires
 entries-of-requires c κs = search needs
@@ -30,8 +30,8 @@ pub put-order-spec : {M : Type 1} → statement M
 put-order-spec =
     tie.close
     (tie.spec
-    slice-aggregate-put-word
-    put-word-requires
+    slice-aggregate-put-keyword
+    put-keyword-requires
     entries-of-requires
     put-entries-requires
     put-byte-requires

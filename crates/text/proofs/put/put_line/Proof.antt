@@ -5,8 +5,8 @@ use Rattle.text.proofs.Lines.{written-line}
 use Rattle.text.proofs.put.put_line.Statement.{statement}
 use Rattle.text.proofs.put.put_line.Tie as tie
 
-put-word-requires : tie.Need-put-word-requires
-put-word-requires c κs = search needs
+put-keyword-requires : tie.Need-put-keyword-requires
+put-keyword-requires c κs = search needs
 
 put-number-requires : tie.Need-put-number-requires
 put-number-requires c κs = search needs
@@ -23,4 +23,4 @@ returns c = search (needs, written-line)
 pub put-line-spec : {M : Type 1} → statement M
 put-line-spec =
     tie.close
-    (tie.spec put-word-requires put-number-requires put-byte-requires same-length returns)
+    (tie.spec put-keyword-requires put-number-requires put-byte-requires same-length returns)

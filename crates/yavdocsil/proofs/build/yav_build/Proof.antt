@@ -11,7 +11,7 @@ use Rattle.fill.specs.Calls.{heldTable}
 use Rattle.lent.specs.Lent.{lentDiagram}
 use Rattle.network.specs.Build.{capacity, reachesBoard, Built}
 use Rattle.yavdocsil.specs.Words.{stateFrom}
-use Rattle.yavdocsil.specs.Called.{settled, success}
+use Rattle.yavdocsil.specs.Called.{wordsAfter, success}
 use Rattle.yavdocsil.proofs.SmallValues.{Small, build-small}
 use Rattle.yavdocsil.proofs.Calling.{short-answer, short-leaves, short-refused, short-no-state}
 use Rattle.yavdocsil.proofs.Calling.{called-answer, called-leaves, carried, carried-number}
@@ -105,7 +105,7 @@ returns-2 c =
       called-answer (now (a .words)) (i .left) (s .result) (s .ensures) _ (r .result) (k .result .answer) (r .ensures .0)
           (ap (λ (o : Outcome). o .answer) (k .ensures .0)),
       (
-        leaves-as _ _ _ (r .ensures .1 .0 ∙ ap (λ (o : Outcome). settled o (now (a .words))) (k .ensures .0)),
+        leaves-as _ _ _ (r .ensures .1 .0 ∙ ap (λ (o : Outcome). wordsAfter o (now (a .words))) (k .ensures .0)),
         (
           leaves-as _ _ _ (k .ensures .1 .1 .1 .0),
           (

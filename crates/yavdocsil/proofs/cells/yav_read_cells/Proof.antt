@@ -6,9 +6,9 @@ use denote.Ref.{now}
 use Rattle.table.specs.declared.Outcome.{Outcome}
 use Rattle.lent.specs.Lent.{lentDiagram}
 use Rattle.network.specs.Build.{capacity}
-use Rattle.cellfile.specs.Read.{Given}
+use Rattle.network_file.specs.Read.{Given}
 use Rattle.yavdocsil.specs.Words.{stateFrom}
-use Rattle.yavdocsil.specs.Called.{settled, success}
+use Rattle.yavdocsil.specs.Called.{wordsAfter, success}
 use Rattle.yavdocsil.proofs.SmallValues.{Small, read-small}
 use Rattle.yavdocsil.proofs.Calling.{short-answer, short-leaves, short-refused, called-answer, called-leaves, carried}
 use Rattle.yavdocsil.proofs.cells.yav_read_cells.Statement.{statement}
@@ -102,7 +102,7 @@ returns-2 c =
       called-answer (now (a .words)) (i .left) (s .result) (s .ensures) _ (r .result) (k .result .answer) (r .ensures .0)
           (ap (λ (o : Outcome). o .answer) (k .ensures .0)),
       (
-        leaves-as _ _ _ (r .ensures .1 .0 ∙ ap (λ (o : Outcome). settled o (now (a .words))) (k .ensures .0)),
+        leaves-as _ _ _ (r .ensures .1 .0 ∙ ap (λ (o : Outcome). wordsAfter o (now (a .words))) (k .ensures .0)),
         (
           leaves-as _ _ _ (k .ensures .1 .0),
           (

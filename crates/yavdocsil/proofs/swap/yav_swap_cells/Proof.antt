@@ -10,7 +10,7 @@ use Rattle.lent.specs.Lent.{lentDiagram}
 use Rattle.network.specs.Build.{capacity}
 use Rattle.swapping.specs.Swap.{cellTable, exchangedOrder, reachesSwap, Swapped}
 use Rattle.yavdocsil.specs.Words.{stateFrom}
-use Rattle.yavdocsil.specs.Called.{settled, success}
+use Rattle.yavdocsil.specs.Called.{wordsAfter, success}
 use Rattle.yavdocsil.proofs.SmallValues.{Small, swap-cells-small}
 use Rattle.yavdocsil.proofs.Calling.{short-answer, short-leaves, short-refused, short-no-state}
 use Rattle.yavdocsil.proofs.Calling.{called-answer, called-leaves, carried, carried-number}
@@ -104,7 +104,7 @@ returns-2 c =
       called-answer (now (a .words)) (i .left) (s .result) (s .ensures) _ (r .result) (k .result .answer) (r .ensures .0)
           (ap (λ (o : Outcome). o .answer) (k .ensures .0)),
       (
-        leaves-as _ _ _ (r .ensures .1 .0 ∙ ap (λ (o : Outcome). settled o (now (a .words))) (k .ensures .0)),
+        leaves-as _ _ _ (r .ensures .1 .0 ∙ ap (λ (o : Outcome). wordsAfter o (now (a .words))) (k .ensures .0)),
         (
           leaves-as _ _ _ (k .ensures .1 .1 .1 .0),
           (

@@ -1,0 +1,40 @@
+-- A network file's cells and roots as lists of numbers, as they are lent, and the tests of them.
+-- Assumes nothing.
+use mathlib.Core.Path.{_≡_}
+use mathlib.Core.Bool.{true}
+use mathlib.Core.List.{List, map}
+use Prim.Native.Nat.{ℕ, _*_, _≤_}
+use lib.ListN.{length}
+use Rattle.lists.specs.Lists.{upTo}
+use Rattle.diagram.specs.Networks.Diagram.{wellFormed}
+use Rattle.diagram.specs.Canonical.Computed.{canonical}
+use Rattle.table.specs.declared.Answer.{Answer}
+use Rattle.table.specs.declared.Answer.the-variants.{Done, BadCells, NotCanonical}
+use Rattle.table.specs.Answer.{unless, done}
+use Rattle.table.specs.File.{fileInputs, fileOutputs, fileOrder}
+use Rattle.table.specs.Calls.{planeSize}
+use Rattle.lent.specs.Lent.{rootsSize}
+use Rattle.network_file.specs.File.{fileCount, fileRoot, cellNumber, fileDiagram, networkFileAnswer}
+
+-- the numbers of the first `count` cells
+unfoldable pub fileCells : ℕ → List ℕ → List ℕ
+fileCells count file = map (cellNumber file) (upTo (3 * count))
+
+-- all the roots that a heading has
+unfoldable pub fileRoots : List ℕ → List ℕ
+fileRoots file = map (fileRoot file) (upTo rootsSize)
+
+-- the last two tests: 24, then 32
+unfoldable pub checkedAnswer : List ℕ → Answer
+checkedAnswer file =
+    unless (wellFormed true (fileInputs file) (fileOutputs file) (fileDiagram file)) BadCells
+    (unless (canonical true (fileInputs file) (fileOutputs file) (fileOrder file) (fileDiagram file)) NotCanonical (Done 0))
+
+-- a file that passes every test, and buffers with room for what it says
+pub record Readable (file values care roots cells : List ℕ) : Type 0 where
+  pub accepted : done (networkFileAnswer file) ≡ true
+  pub checked : done (checkedAnswer file) ≡ true
+  pub values-room : planeSize ≤ length values
+  pub care-room : planeSize ≤ length care
+  pub roots-room : rootsSize ≤ length roots
+  pub cells-room : 3 * fileCount file ≤ length cells
