@@ -5,8 +5,8 @@ from unittest import mock
 
 import tables
 
-import files
-import reference
+from making import table_files
+from paper import reference
 
 # With this many inputs all orders are tried, in a second or two.
 FEW_INPUTS = 6
@@ -41,8 +41,8 @@ def is_our_filling(table, filled):
 
     `&ttopt` fills as section 3 did before document 02's 2.6.
     """
-    values = files.packed([bit for output in table.values for bit in output])
-    care = files.packed(tables.care_bits(table) * table.m)
+    values = table_files.packed([bit for output in table.values for bit in output])
+    care = table_files.packed(tables.care_bits(table) * table.m)
     drawn = reference.Table(table.n, table.m, values, care)
     orders = itertools.permutations(range(table.n))
     with mock.patch.object(reference, "HALVES_FIRST", False):

@@ -12,7 +12,7 @@ from pathlib import Path
 
 sys.path.insert(0, str(Path(__file__).resolve().parent.parent / "tests"))
 
-import files
+from making import table_files
 
 # `values` has a list of bits for each output, `cared` the cared row numbers.
 Table = namedtuple("Table", "n m percent values cared")
@@ -35,7 +35,7 @@ def care_bits(table):
 def file_of(table):
     values = [bit for output in table.values for bit in output]
     care = care_bits(table) * table.m
-    return files.table_file(table.n, table.m, range(table.n), values, care)
+    return table_files.table_file(table.n, table.m, range(table.n), values, care)
 
 
 def drawn_in_full(table, filled):

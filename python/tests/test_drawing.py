@@ -2,7 +2,7 @@
 
 from __future__ import annotations
 
-import importlib.util
+import importlib
 import pathlib
 import random
 import sys
@@ -33,12 +33,9 @@ def random_table(random: random.Random, n: int, most_outputs: int = 4) -> Table:
 
 
 def other_reader():
-    """tests/drawings.py, which reads the examples' drawings on its own."""
+    """tests/examples/drawings.py, which reads the examples' drawings on its own."""
     sys.path.append(str(PYTHON.parent / "tests"))
-    spec = importlib.util.spec_from_file_location("drawings", PYTHON.parent / "tests" / "drawings.py")
-    module = importlib.util.module_from_spec(spec)
-    spec.loader.exec_module(module)
-    return module
+    return importlib.import_module("examples.drawings")
 
 
 class Examples(unittest.TestCase):

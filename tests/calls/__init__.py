@@ -1,0 +1,1 @@
+"""Every call of the shared library compared with the reference."""

@@ -1,0 +1,1 @@
+"""The drawings, table files and network files in examples/ held to each other and to the reference."""

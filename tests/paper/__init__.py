@@ -1,0 +1,1 @@
+"""The papers once more, plainly: the implementation that everything is compared with, and tests of it."""

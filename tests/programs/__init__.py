@@ -1,0 +1,1 @@
+"""The programs `print` and `cells` compared with what they must write."""

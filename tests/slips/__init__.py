@@ -1,0 +1,1 @@
+"""Deliberate slips of the reference, which the comparison of the calls must find."""
