@@ -2,14 +2,9 @@
 
 from __future__ import annotations
 
-import pathlib
 import random
-import sys
 
-PYTHON = pathlib.Path(__file__).resolve().parent.parent
-sys.path.insert(0, str(PYTHON))
-
-from yavdocsil.diagram import Cell, Diagram  # noqa: E402
+from yavdocsil.diagram import Cell, Diagram
 
 
 def made(inputs, outputs, order, cells, roots):

@@ -5,17 +5,13 @@ import io
 import os
 import pathlib
 import subprocess
-import sys
 import tempfile
 import unittest
 import unittest.mock
 
-ROOT = pathlib.Path(__file__).resolve().parent.parent.parent
-sys.path.insert(0, str(ROOT / "python"))
-
+from tests.places import ROOT
 from yavdocsil.command import main
 
-EXAMPLES = ROOT / "examples"
 # The environment of a person: nothing in it that says how Python writes, and a terminal of 80 columns.
 PLAIN = {**{name: value for name, value in os.environ.items() if not name.startswith("PYTHON")}, "COLUMNS": "80"}
 GUARD = "examples/bounce-guard.txt"

@@ -6,10 +6,9 @@ import os
 import signal
 import subprocess
 import termios
-import unittest
 
-from running import EXAMPLES, GUARD, PAIRS, PLAIN, ROOT, WithFolder, yav
-
+from tests.command.running import GUARD, PAIRS, PLAIN, WithFolder, yav
+from tests.places import EXAMPLES, ROOT
 from yavdocsil import Table
 
 XOR = (EXAMPLES / "xor.txt").read_text(encoding="utf-8")
@@ -297,7 +296,3 @@ class Encodings(WithFolder):
         self.refused(f"yav: {path}: it is UTF-16", "show", path)
         path = self.file("latin.txt", "a é | y\n".encode("latin-1"))
         self.refused(f"yav: {path}:1:3: ", "show", path)
-
-
-if __name__ == "__main__":
-    unittest.main()

@@ -4,8 +4,8 @@ import random
 import unittest
 import xml.etree.ElementTree
 
-from running import CROSSED, EXAMPLES, GUARD, WithFolder, yav
-
+from tests.command.running import CROSSED, GUARD, WithFolder, yav
+from tests.places import EXAMPLES
 from yavdocsil import Table, __version__
 
 

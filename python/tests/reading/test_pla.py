@@ -3,17 +3,12 @@
 from __future__ import annotations
 
 import itertools
-import pathlib
 import random
-import sys
 import unittest
 import unittest.mock
 
-TESTS = pathlib.Path(__file__).resolve().parent
-sys.path.insert(0, str(TESTS.parent))
-sys.path.append(str(TESTS))
-
-from test_drawing import random_table
+from tests.places import EXAMPLES, ROOT
+from tests.reading.random_tables import random_table
 from yavdocsil import Malformed, Table
 from yavdocsil.errors import MOST_GATHERED, Faults
 from yavdocsil.reading import pla as reader
@@ -467,7 +462,7 @@ class Example(unittest.TestCase):
     LIT = {"a": "02356789", "b": "01234789", "c": "013456789", "d": "0235689", "e": "0268", "f": "045689", "g": "2345689"}
 
     def test_every_digit_and_what_is_none(self) -> None:
-        text = (TESTS.parent.parent / "examples" / "seven-segment.pla").read_text(encoding="utf-8")
+        text = (EXAMPLES / "seven-segment.pla").read_text(encoding="utf-8")
         faults = Faults()
         table = Table(*reader.read(text, faults))
         self.assertEqual((faults.notes, table.inputs, table.outputs), ([], ("b3", "b2", "b1", "b0"), (*self.LIT,)))
@@ -531,7 +526,7 @@ class Documented(unittest.TestCase):
     """The examples of docs/FORMATS.md are what is read and written."""
 
     def setUp(self) -> None:
-        self.text = (TESTS.parent.parent / "docs" / "FORMATS.md").read_text(encoding="utf-8")
+        self.text = (ROOT / "docs" / "FORMATS.md").read_text(encoding="utf-8")
         self.table = Table.from_rows("0110", ["left", "right"], ["lamp"], [1, 0])
 
     def example(self, kind: str) -> str:
@@ -562,7 +557,3 @@ class Documented(unittest.TestCase):
         for block, parts in ((heading, [(0, 8), (16, 20)]), (cells, [(0, 16)])):
             shown = "; ".join(f"from {begin}: `{block[begin:end].hex(' ')}`" for begin, end in parts)
             self.assertIn(f"| {shown} | {int.from_bytes(block[510:], 'little')}, `{block[510:].hex(' ')}` |", self.text)
-
-
-if __name__ == "__main__":
-    unittest.main()

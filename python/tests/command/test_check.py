@@ -1,9 +1,6 @@
 """Tests of the word check: every error at once, and what it tells of a table that can be read."""
 
-import unittest
-
-from running import CROSSED, GUARD, PAIRS, WithFolder
-
+from tests.command.running import CROSSED, GUARD, PAIRS, WithFolder
 from yavdocsil import Table
 
 
@@ -87,7 +84,3 @@ class Told(WithFolder):
         told = self.written("check", self.file("none.txt", "| y\n| 1\n"))
         self.assertEqual(told, "inputs  0\noutputs 1\nrows    1: 1 cared, 0 free\ncells   0 in the order\n")
         self.assertIn("rows    32: 32 cared, 0 free\n", self.written("check", "examples/bounce-guard.cells"))
-
-
-if __name__ == "__main__":
-    unittest.main()

@@ -2,7 +2,6 @@
 
 from __future__ import annotations
 
-import pathlib
 import random
 import re
 import sys
@@ -10,9 +9,6 @@ import tracemalloc
 import unittest
 from collections.abc import Callable
 from typing import NamedTuple, Optional
-
-PYTHON = pathlib.Path(__file__).resolve().parent.parent
-sys.path.insert(0, str(PYTHON))
 
 from yavdocsil import Malformed, Table
 from yavdocsil.errors import MOST_GATHERED, Faults
@@ -192,7 +188,3 @@ class ManyErrors(unittest.TestCase):
                 rows.read(text, "ab")
             self.assertEqual(str(caught.exception), f"{wanted} is no row: it takes 2 bits, for a b")
 
-
-
-if __name__ == "__main__":
-    unittest.main()

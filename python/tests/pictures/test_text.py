@@ -5,7 +5,7 @@ from __future__ import annotations
 import re
 import unittest
 
-from sample_diagrams import BOUNCE_GUARD, DIAGRAMS, LARGE, XOR, made
+from tests.sample_diagrams import BOUNCE_GUARD, DIAGRAMS, LARGE, XOR, made
 from yavdocsil.pictures import text
 
 
@@ -97,7 +97,3 @@ class Text(unittest.TestCase):
 
     def test_no_inputs(self):
         self.assertEqual(text.write(DIAGRAMS["no inputs"]).splitlines()[:3], ["one  -> const 1", "zero -> const 0", ""])
-
-
-if __name__ == "__main__":
-    unittest.main()

@@ -12,7 +12,8 @@ import unittest
 import xml.etree.ElementTree as ElementTree
 from collections import Counter
 
-from sample_diagrams import BOUNCE_GUARD, DIAGRAMS, LARGE, NASTY, PYTHON, XOR, edges_of, made
+from tests.places import PYTHON
+from tests.sample_diagrams import BOUNCE_GUARD, DIAGRAMS, LARGE, NASTY, XOR, edges_of, made
 from yavdocsil.diagram import cell_of, is_constant, is_inverted
 from yavdocsil.pictures import layout, svg
 from yavdocsil.pictures.layout import graph, order, parts
@@ -225,8 +226,8 @@ class EveryDiagram(unittest.TestCase):
 
 class Svg(unittest.TestCase):
     def test_same_bytes_in_every_run(self):
-        folders = [str(PYTHON), str(PYTHON / "tests")]
-        code = f"import sys; sys.path[:0] = {folders!r}; import test_pictures as t; print(t.svg.write(t.LARGE), end='')"
+        imported = "from tests.sample_diagrams import LARGE; from yavdocsil.pictures import svg"
+        code = f"import sys; sys.path[:0] = [{str(PYTHON)!r}]; {imported}; print(svg.write(LARGE), end='')"
         runs = [
             subprocess.run([sys.executable, "-c", code], env={**os.environ, "PYTHONHASHSEED": seed}, capture_output=True, check=True)
             for seed in ("1", "2")
@@ -317,7 +318,3 @@ class Svg(unittest.TestCase):
     def test_many_references_to_constants_have_boxes_of_their_own(self):
         self.assertTrue(layout.place(LARGE).stubs)
         self.assertFalse(layout.place(BOUNCE_GUARD).stubs)
-
-
-if __name__ == "__main__":
-    unittest.main()

@@ -1,10 +1,9 @@
 """Tests of swaps in the cells: places by number and by name, tables with free rows, boards, and what is written."""
 
 import pathlib
-import unittest
 
-from running import CROSSED, EXAMPLES, GUARD, PAIRS, WithFolder, yav
-
+from tests.command.running import CROSSED, GUARD, PAIRS, WithFolder, yav
+from tests.places import EXAMPLES
 from yavdocsil import Network, Table
 
 CELLS = "examples/and-or-crossed.cells"
@@ -85,7 +84,3 @@ class Refusing(WithFolder):
 
     def test_no_place(self):
         self.misused("required: PLACE", "swap", PAIRS)
-
-
-if __name__ == "__main__":
-    unittest.main()

@@ -15,7 +15,8 @@ import tempfile
 import unittest
 import zipfile
 
-ROOT = pathlib.Path(__file__).resolve().parent.parent.parent
+from tests.places import ROOT
+
 BACKEND = "python/packaging/backend.py"
 CROSSED = ROOT / "examples" / "and-or-crossed.txt"
 SHARED = [
@@ -283,7 +284,3 @@ class NotBuilt(WithFolder):
         prefix = self.folder / "prefix"
         self.assertEqual(refused(self.copy / "install", prefix), self.missing(f"libyavdocsil.so.{version()}"))
         self.assertFalse(prefix.exists())
-
-
-if __name__ == "__main__":
-    unittest.main()

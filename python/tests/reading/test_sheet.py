@@ -2,16 +2,11 @@
 
 from __future__ import annotations
 
-import pathlib
 import random
-import sys
 import unittest
 
-TESTS = pathlib.Path(__file__).resolve().parent
-sys.path.insert(0, str(TESTS.parent))
-sys.path.append(str(TESTS))
-
-from test_drawing import random_table
+from tests.places import ROOT
+from tests.reading.random_tables import random_table
 from yavdocsil import Malformed, Table
 from yavdocsil.errors import Faults
 from yavdocsil.reading import sheet
@@ -278,11 +273,7 @@ class Writing(unittest.TestCase):
 
 class Documented(unittest.TestCase):
     def test_the_example(self) -> None:
-        text = (TESTS.parent.parent / "docs" / "FORMATS.md").read_text(encoding="utf-8").split("```csv\n")[1].split("```")[0]
+        text = (ROOT / "docs" / "FORMATS.md").read_text(encoding="utf-8").split("```csv\n")[1].split("```")[0]
         table = Table.from_rows("0110", ["left", "right"], ["lamp"], [1, 0])
         self.assertEqual(table_of(text), table)
         self.assertEqual(sheet.write(table), text.replace("\n", "\r\n"))
-
-
-if __name__ == "__main__":
-    unittest.main()

@@ -3,16 +3,11 @@
 from __future__ import annotations
 
 import itertools
-import pathlib
 import random
-import sys
 import unittest
 
-TESTS = pathlib.Path(__file__).resolve().parent
-sys.path.insert(0, str(TESTS.parent))
-sys.path.append(str(TESTS))
-
-from test_drawing import random_table
+from tests.places import ROOT
+from tests.reading.random_tables import random_table
 from yavdocsil import Cell, Diagram, Malformed, Network, Table
 from yavdocsil.errors import Faults
 from yavdocsil.exports import blif as export
@@ -281,7 +276,7 @@ class OtherTools(unittest.TestCase):
 
 class Documented(unittest.TestCase):
     def test_the_example_of_the_formats(self) -> None:
-        text = (TESTS.parent.parent / "docs" / "FORMATS.md").read_text(encoding="utf-8").split("```blif\n")[1].split("```")[0]
+        text = (ROOT / "docs" / "FORMATS.md").read_text(encoding="utf-8").split("```blif\n")[1].split("```")[0]
         self.assertEqual(read(text), Table.from_rows("011-", ["left", "right"], ["lamp"], [1, 0]))
 
 
@@ -448,7 +443,3 @@ class Notes(unittest.TestCase):
             faults = Faults()
             blif.read(text, faults)
             self.assertEqual([str(note) for note in faults.notes], notes)
-
-
-if __name__ == "__main__":
-    unittest.main()

@@ -3,20 +3,16 @@
 import copy
 import pathlib
 import pickle
-import sys
 import tempfile
 import unittest
 import warnings
-
-PYTHON = pathlib.Path(__file__).resolve().parent.parent
-ROOT = PYTHON.parent
-sys.path.insert(0, str(PYTHON))
 
 try:
     import numpy
 except ImportError:
     numpy = None
 
+from tests.places import ROOT
 from yavdocsil import Malformed, Network, NotText, Refused, Table, UnknownFormat
 from yavdocsil.reading import Content
 
@@ -283,7 +279,3 @@ class Files(Refusing):
         with self.assertRaisesRegex(Refused, "7 are wanted, it has 6$"):
             Network.from_path(self.folder / "a.cells", board=6)
         self.assertEqual(Network.from_path(self.put("b", self.table.to_pla()), "pla").table, self.table)
-
-
-if __name__ == "__main__":
-    unittest.main()

@@ -2,8 +2,8 @@
 
 import unittest
 
-from running import CROSSED, EXAMPLES, GUARD, PAIRS, ROOT, WithFolder, yav
-
+from tests.command.running import CROSSED, GUARD, PAIRS, WithFolder, yav
+from tests.places import EXAMPLES, ROOT
 from yavdocsil import Malformed, Network, Table
 from yavdocsil.reading import rows
 
@@ -170,7 +170,3 @@ class Reading(unittest.TestCase):
 
     def test_the_example(self):
         self.assertEqual(rows.read((EXAMPLES / "and-or.rows").read_text(encoding="utf-8"), "abcd"), [int(row, 2) for row in SEEN])
-
-
-if __name__ == "__main__":
-    unittest.main()

@@ -2,14 +2,9 @@
 
 from __future__ import annotations
 
-import pathlib
-import sys
 import unittest
 
-PYTHON = pathlib.Path(__file__).resolve().parent.parent
-EXAMPLES = PYTHON.parent / "examples"
-sys.path.insert(0, str(PYTHON))
-
+from tests.places import EXAMPLES
 from yavdocsil import Malformed
 from yavdocsil.errors import Error
 from yavdocsil.reading import blif, drawing, pla, sheet
@@ -92,7 +87,3 @@ class Wrong(unittest.TestCase):
             (MARK + b"a\n", 2, 1),
         ):
             self.wrong_byte(before + b"\x81 and so on\n\x82", line, column, reason)
-
-
-if __name__ == "__main__":
-    unittest.main()

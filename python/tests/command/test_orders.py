@@ -3,10 +3,9 @@
 import itertools
 import os
 import subprocess
-import unittest
 
-from running import CROSSED, EXAMPLES, GUARD, PAIRS, ROOT, WithFolder
-
+from tests.command.running import CROSSED, GUARD, PAIRS, WithFolder
+from tests.places import EXAMPLES, ROOT
 from yavdocsil import Network, Table
 from yavdocsil.command.options import order_named
 from yavdocsil.command.files import BadWord
@@ -187,7 +186,3 @@ class Told(WithFolder):
         path = self.file("none.txt", "| y\n| 1\n")
         self.assertEqual(self.written("order", path, "--order", "", "--board", "0"), "0 cells in the order\n")
         self.assertIn("care    1 mark cared, 0 free\n", self.written("info", path))
-
-
-if __name__ == "__main__":
-    unittest.main()

@@ -15,16 +15,13 @@ import tempfile
 import unittest
 import unittest.mock
 
-PYTHON = pathlib.Path(__file__).resolve().parent.parent
-ROOT = PYTHON.parent
-sys.path.insert(0, str(PYTHON))
-
 try:
     import numpy
 except ImportError:
     numpy = None
 
 import yavdocsil
+from tests.places import PYTHON, ROOT
 from yavdocsil import Cell, Error, Malformed, Network, NotBuilt, Refused, Table, library, pictures
 from yavdocsil.errors import REFUSALS
 from yavdocsil.exports import blif, verilog

@@ -2,15 +2,11 @@
 
 from __future__ import annotations
 
-import pathlib
 import re
-import sys
 from collections.abc import Callable, Sequence
 from typing import NamedTuple
 
-sys.path.insert(0, str(pathlib.Path(__file__).resolve().parent.parent))
-
-from yavdocsil.exports import verilog  # noqa: E402
+from yavdocsil.exports import verilog
 
 Values = dict[str, int]
 

@@ -3,38 +3,21 @@
 from __future__ import annotations
 
 import importlib
-import pathlib
 import random
 import sys
 import unittest
 
-PYTHON = pathlib.Path(__file__).resolve().parent.parent
-EXAMPLES = PYTHON.parent / "examples"
-sys.path.insert(0, str(PYTHON))
-
+from tests.places import EXAMPLES, ROOT
+from tests.reading.random_tables import random_table
 from yavdocsil import Malformed, Table
 from yavdocsil.display import columns
 from yavdocsil.errors import Faults
 from yavdocsil.reading import MARKS, drawing
 
-WORDS = ["a", "B2", "left", "held_long", "00", "1-", "-1", "places", ".i", "~", "é", "x[3]", "01", "a,b", "--", "y'"]
-
-
-def random_table(random: random.Random, n: int, most_outputs: int = 4) -> Table:
-    """A table with some wholly free rows, some free marks, a random order, and names that are easily mistaken."""
-    m = random.randint(1, most_outputs)
-    sparse, free = random.random(), random.random()
-    rows = [
-        "".join("-" if random.random() < free else random.choice("01") for _ in range(m)) if random.random() >= sparse else "-" * m
-        for _ in range(2**n)
-    ]
-    order = random.sample(range(n), n)
-    return Table.from_rows(rows, random.sample(WORDS, n), random.sample(WORDS, m), order)
-
 
 def other_reader():
     """tests/examples/drawings.py, which reads the examples' drawings on its own."""
-    sys.path.append(str(PYTHON.parent / "tests"))
+    sys.path.append(str(ROOT / "tests"))
     return importlib.import_module("examples.drawings")
 
 
@@ -359,7 +342,3 @@ class Writing(unittest.TestCase):
             for names in ({"inputs": [name]}, {"outputs": [name]}):
                 with self.subTest(name), self.assertRaises(ValueError):
                     Table.from_rows(["0", "1"], **names).to_drawing()
-
-
-if __name__ == "__main__":
-    unittest.main()

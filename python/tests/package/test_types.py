@@ -4,7 +4,7 @@ import shutil
 import subprocess
 import unittest
 
-from running import ROOT
+from tests.places import ROOT
 
 MYPY = shutil.which("mypy")
 
@@ -15,7 +15,3 @@ class Types(unittest.TestCase):
         command = [MYPY, "--strict", "--cache-dir", str(ROOT / "target" / "mypy"), "-p", "yavdocsil"]
         run = subprocess.run(command, cwd=ROOT / "python", capture_output=True, text=True)
         self.assertEqual((run.returncode, run.stderr), (0, ""), run.stdout)
-
-
-if __name__ == "__main__":
-    unittest.main()

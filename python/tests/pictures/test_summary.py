@@ -4,7 +4,7 @@ from __future__ import annotations
 
 import unittest
 
-from sample_diagrams import BOUNCE_GUARD, DIAGRAMS, LARGE, made
+from tests.sample_diagrams import BOUNCE_GUARD, DIAGRAMS, LARGE, made
 from yavdocsil.display import columns
 from yavdocsil.pictures import summary
 
@@ -89,7 +89,3 @@ class Summary(unittest.TestCase):
             "output    cells  alone",
             "y\\x1b         2      2",
         ])
-
-
-if __name__ == "__main__":
-    unittest.main()

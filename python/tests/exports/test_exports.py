@@ -8,7 +8,7 @@ import unittest
 from collections.abc import Sequence
 from dataclasses import replace
 
-from export_readers import Read, read_blif, read_verilog
+from tests.exports.readers import Read, read_blif, read_verilog
 from yavdocsil.diagram import Cell, Diagram
 from yavdocsil.exports import blif, names, verilog
 from yavdocsil.reading import blif as blif_reader
@@ -265,7 +265,3 @@ class Naming(unittest.TestCase):
 
     def test_plain(self) -> None:
         self.assertEqual([names.plain(name) for name in ("a", "a b", "2", "", "é")], ["a", "a_b", "_2", "_", "_"])
-
-
-if __name__ == "__main__":
-    unittest.main()

@@ -4,7 +4,7 @@ from __future__ import annotations
 
 import unittest
 
-from sample_diagrams import BOUNCE_GUARD, DIAGRAMS, LARGE, XOR, made
+from tests.sample_diagrams import BOUNCE_GUARD, DIAGRAMS, LARGE, XOR, made
 
 
 class Parts(unittest.TestCase):
@@ -76,7 +76,3 @@ class Reaching(unittest.TestCase):
         asked, fresh = BOUNCE_GUARD.only(["hold"]), BOUNCE_GUARD.only(["hold"])
         asked.evaluate(0)
         self.assertEqual(asked, fresh)
-
-
-if __name__ == "__main__":
-    unittest.main()

@@ -6,7 +6,7 @@ import re
 import unittest
 from collections import Counter
 
-from sample_diagrams import BOUNCE_GUARD, DIAGRAMS, LARGE, NASTY, XOR, edges_of, made
+from tests.sample_diagrams import BOUNCE_GUARD, DIAGRAMS, LARGE, NASTY, XOR, edges_of, made
 from yavdocsil.pictures import dot, svg
 
 
@@ -69,7 +69,3 @@ class Dot(unittest.TestCase):
         self.assertIn("root0 -> cell2;", written)
         self.assertIn(">4 of the network's 7 cells<", written)
         self.assertNotIn("network's", dot.write(BOUNCE_GUARD))
-
-
-if __name__ == "__main__":
-    unittest.main()

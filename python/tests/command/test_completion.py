@@ -12,8 +12,8 @@ import shutil
 import subprocess
 import unittest
 
-from running import ROOT, WithFolder
-
+from tests.command.running import WithFolder
+from tests.places import ROOT
 from yavdocsil.command.completion import SHELLS, script
 from yavdocsil.command.parser import parser
 
@@ -249,7 +249,3 @@ class ManualPage(unittest.TestCase):
         run = subprocess.run(["groff", "-man", "-ww", "-Tutf8", str(PAGE)], capture_output=True, text=True)
         self.assertEqual((run.returncode, run.stderr), (0, ""))
         self.assertIn("yav - the smallest selector networks", run.stdout)
-
-
-if __name__ == "__main__":
-    unittest.main()

@@ -1,0 +1,1 @@
+"""Tests of the package and of the command over it, in folders as the package's own."""
