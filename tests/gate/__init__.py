@@ -1,0 +1,1 @@
+"""That the gate finds every test."""
