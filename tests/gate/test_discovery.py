@@ -24,9 +24,10 @@ def with_tests(folder):
     return [path for path in sorted((ROOT / folder).rglob("*.py")) if has_tests(path)]
 
 
-def packages_above(path, top):
-    """The folders that have to be packages, for the file to be found."""
-    return [folder for folder in path.parents if ROOT / top in folder.parents]
+def packages(folder, top):
+    """The folders that have to be packages, for the tests to be found."""
+    above = {each for path in with_tests(folder) for each in path.parents}
+    return sorted(each for each in above if ROOT / top in each.parents)
 
 
 class Discovery(unittest.TestCase):
@@ -39,8 +40,8 @@ class Discovery(unittest.TestCase):
         self.assertEqual(named_otherwise, [])
 
     def test_their_folders_are_packages(self):
-        packages = {each for folder in TESTS for path in with_tests(folder) for each in packages_above(path, TESTS[folder])}
-        self.assertEqual([folder for folder in sorted(packages) if not (folder / "__init__.py").is_file()], [])
+        needed = [package for folder, top in TESTS.items() for package in packages(folder, top)]
+        self.assertEqual([package for package in needed if not (package / "__init__.py").is_file()], [])
 
     def test_none_is_beside_the_folders(self):
         """The gate takes the folders of tests/ one by one."""

@@ -1,1 +1,1 @@
-"""The exports held to tools from elsewhere: the networks that are compared, and a module for each tool or kind of tool."""
+"""The exports held to tools from elsewhere: the networks compared, and a module for each tool or kind of tool."""

@@ -2,11 +2,12 @@
 
     PYTHONPATH=tests:python python3 -m outside.compare [--tables N] [--seed S]
 
-Takes the examples' drawings, some tables drawn here and N random ones with free rows, and needs the library that ./build makes. BLIF,
-Verilog and PLA are put to ABC, Verilog also to Icarus and to Yosys, DOT to Graphviz, PLA to espresso; and BLIF that ABC writes itself is
-read here. It installs nothing: the tools are Debian's berkeley-abc, iverilog, yosys and graphviz. Debian has no package of espresso; one on
-the path is asked. What isn't there is named, and its part not run. Where a part runs, broken exports are put to the tool, too, and must be
-found. The status is 0 if all that was run agreed, and 1 on a difference.
+Takes the examples' drawings, some tables drawn here and N random ones with free rows, and needs the library that
+./build makes. BLIF, Verilog and PLA are put to ABC, Verilog also to Icarus and to Yosys, DOT to Graphviz, PLA to
+espresso; and BLIF that ABC writes itself is read here. It installs nothing: the tools are Debian's berkeley-abc,
+iverilog, yosys and graphviz. Debian has no package of espresso; one on the path is asked. What isn't there is named,
+and its part not run. Where a part runs, broken exports are put to the tool, too, and must be found. The status is 0
+if all that was run agreed, and 1 on a difference.
 """
 
 from __future__ import annotations
