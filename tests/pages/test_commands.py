@@ -14,7 +14,7 @@ import sys
 import tempfile
 import unittest
 
-from . import shown, texts
+from pages import shown, texts
 
 # Commands that change the machine or take as long as the gate, and what runs them: a file, by its name, and a line that stands in it.
 ELSEWHERE = {
@@ -22,7 +22,7 @@ ELSEWHERE = {
     "./install PREFIX": ("test_install.py", "class Prefix(WithFolder):"),
     "pip install target/wheel/yavdocsil-*.whl": ("test_install.py", "def test_the_wheel_and_nothing_after_it(self):"),
     "cc examples/sift.c $(pkg-config --cflags --libs yavdocsil)": ("test_interface.py", "def test_c_with_what_is_installed(self):"),
-    "espresso guard.pla | yav export - --from pla --verilog": ("test_command_files.py", '"-", *more, "--from", "drawing"'),
+    "espresso guard.pla | yav export - --from pla --verilog": ("test_files.py", '"-", *more, "--from", "drawing"'),
 }
 # Commands that no test runs, and where a page says why: the gate itself, measurements, and packages of the system.
 BY_HAND = {
@@ -48,8 +48,8 @@ FENCES = {
     "drawing": ("test_pla.py", 'self.example("drawing")'),
     "pla": ("test_pla.py", 'self.example("pla")'),
     "csv": ("test_sheet.py", "```csv"),
-    "blif": ("test_blif_reading.py", "```blif"),
-    "rows": ("test_command_rows.py", "```rows"),
+    "blif": ("test_blif.py", "```blif"),
+    "rows": ("test_rows.py", "```rows"),
 }
 MANUAL = "docs/yav.1"
 # The longest that a command may take, in seconds.

@@ -8,7 +8,7 @@ else stands in backticks, so no name can lose its file.
 import re
 import unittest
 
-from . import texts
+from pages import texts
 
 MAP = texts.ROOT / "docs" / "MAP.md"
 REFERENCE = re.compile(r"`(crates/[^`]+)`(?::\s+(`(?!crates/)[^`]+`(?:,\s+`(?!crates/)[^`]+`)*))?")
@@ -136,7 +136,7 @@ class Checked(unittest.TestCase):
     def test_definitions_of_each_kind(self):
         for name, path in (
             ("Table", "diagram/specs/Table.antt"), ("n", "diagram/specs/Table.antt"), ("filled", "diagram/specs/Table.antt"),
-            ("Tree", "diagram/specs/Tree.antt"), ("halfPair", "diagram/specs/inner/Exchange.antt"),
+            ("Tree", "diagram/specs/Tree.antt"), ("halfPair", "diagram/specs/Exchanging/Exchange.antt"),
             ("State", "table/src/lib.rt"), ("Answer", "table/src/lib.rt"), ("PLANE", "table/src/lib.rt"), ("swap", "table/src/swap.rt"),
             ("yav_load", "yavdocsil/src/load.rt"),
         ):

@@ -3,7 +3,7 @@
 import re
 import unittest
 
-from . import texts
+from pages import texts
 
 WIDEST = 120
 ALONE = re.compile(r"[-* ]*!?\[[^\]]*\]\([^)]*\)[.,;]?")

@@ -1,0 +1,1 @@
+"""The crates' own texts, held to what the pages say of them."""
