@@ -32,7 +32,7 @@ use Rattle.table.proofs.Held.{few-inputs, few-outputs, ordered}
 use Rattle.table.proofs.Ordering.Exchanged.{exchanged-order, take-exchanged}
 use Rattle.fill.specs.Work.{workSize, linksAt, allLinks}
 use Rattle.fill.specs.Counts.{differingPairs}
-use Rattle.fill.proofs.Buffers.Sizes.{work-size}
+use Rattle.fill.proofs.Buffers.Sizes.{work-size, links-at}
 use Rattle.fill.proofs.Counting.LinkPairs.{Links}
 use Rattle.lent.specs.Lent.{lentDiagram, lentCells}
 use Rattle.lent.proofs.Nodes.{lent-length}
@@ -41,7 +41,6 @@ use Rattle.network.specs.Levels.{levelAt}
 use Rattle.swapping.specs.Swap.{heldDiagram, cellTable, exchangedOrder}
 use Rattle.swapping.specs.inner.Exchange.{mostPairs, lentAt, putLinks, Entered}
 use Rattle.network.proofs.LinksRead.LevelsRead.{Sized, links-counted}
-use Rattle.network.proofs.LinksRead.Offsets.{links-at}
 use Rattle.network.proofs.LinksRead.TraceSized.{trace-sized, lower-length}
 use Rattle.network.proofs.LinksRead.TraceRead.{drawn, kss, lss, trace-room, links-levels, read-end}
 use Rattle.swapping.proofs.Checks.{Passed}

@@ -2,7 +2,7 @@
 -- Assumes nothing.
 use mathlib.Core.Path.{_≡_, refl}
 use native.Mathlib.Omega.{arith}
-use Rattle.table.specs.Calls.{planeSize}
+use Rattle.table.proofs.Planes.PlaneSize.{plane-size}
 use Rattle.fill.specs.Work.{workSize, linksAt}
 
 pub work-size : workSize ≡ 32768
@@ -12,9 +12,5 @@ work-size = refl
 pub links-at : linksAt ≡ 8192
 unfolding linksAt
 links-at = refl
-
-pub plane-size : planeSize ≡ 2048
-unfolding planeSize
-plane-size = refl
 
 pub ruleset sizes = (arith, work-size, links-at, plane-size)

@@ -27,10 +27,7 @@ use Rattle.fill.specs.Work.{workSize, trialsSize, trialsZero, zeroWork}
 use Rattle.fill.specs.Calls.{enough, perLevel, countsSize, countsOf, countsPut, trialCounts, triedCounts, trialsAnswer, trialsCounts, trialsWork}
 use Rattle.fill.proofs.Buffers.Sizes.{sizes}
 use Rattle.fill.proofs.Calls.Filling.{cells-filled}
-
-pub counts-size : countsSize ≡ 100
-unfolding countsSize
-counts-size = refl
+use Rattle.fill.proofs.Lowered.TrialSizes.{trials-size}
 
 -- the counts of one level put in, or nothing
 module _ (p : ℕ) (known found : List ℕ) where
@@ -119,10 +116,6 @@ module _ (s : State) (except : ℕ) (values care found : List ℕ) where
     pub trials-work : trialsWork s values care found work ≡ trialsZero work
     unfolding trialsWork
     trials-work = rw trials-done
-
-trials-size : trialsSize ≡ 20480
-unfolding trialsSize
-trials-size = refl
 
 -- a work buffer that is zero stays so
 pub trials-zeroed : (work : List ℕ) → trialsZero (zeroWork work) ≡ zeroWork work

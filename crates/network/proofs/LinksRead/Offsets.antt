@@ -1,6 +1,6 @@
 -- Where the links of a level begin and how many nodes stand above it: sums over the levels above.
 -- Assumes nothing.
-use mathlib.Core.Path.{_≡_, refl, ap, _∙_, subst}
+use mathlib.Core.Path.{_≡_, ap, _∙_, subst}
 use mathlib.Core.List.{List}
 use Prim.Native.Nat.{ℕ, zero, suc, _+_, _*_, _-_, _≤_, _<_}
 use native.Mathlib.Nat.{le-refl, add-zero, add-suc}
@@ -26,10 +26,6 @@ sum-below f p n h =
 sum-upto : (f : ℕ → ℕ) (p k : ℕ) → sumBelow f p ≤ sumBelow f (p + k)
 sum-upto f p zero = rw (add-zero p) (le-refl (sumBelow f p))
 sum-upto f p (suc k) = rw (add-suc p k) (omega (arith, sum-upto f p k))
-
-pub links-at : linksAt ≡ 8192
-unfolding linksAt
-links-at = refl
 
 pub first-at : (m : ℕ) (entries : List ℕ) → levelAt m entries 0 ≡ linksAt + 2 * m
 first-at m entries = omega arith

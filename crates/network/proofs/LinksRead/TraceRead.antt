@@ -31,7 +31,7 @@ use Rattle.diagram.proofs.Tracing.Traced.{traced, traced-counts}
 use Rattle.fill.specs.Work.{workSize, linksAt, allLinks, zeroWork, clearedWork}
 use Rattle.fill.specs.Counts.{differingPairs}
 use Rattle.fill.proofs.Room.LinksRoom.{linksLimit, links-room}
-use Rattle.fill.proofs.Buffers.Sizes.{work-size}
+use Rattle.fill.proofs.Buffers.Sizes.{work-size, links-at}
 use Rattle.fill.proofs.Counting.LinkPairs.{Links}
 use Rattle.lent.specs.Lent.{numbersOf, rootsSize}
 use Rattle.network.specs.Levels.{Made, made, levelAt, levelsMade, rootAt}
@@ -40,7 +40,7 @@ use Rattle.network.proofs.LinksRead.LinkRefs.{links-kept, links-split, 
 use Rattle.network.proofs.LinksRead.LevelsRead.{traced-length, Sized, LevelsRead, levels-read, sized-counts, sized-end, sized-nodes}
 use Rattle.network.proofs.LinksRead.LevelsRead.{numbers-length}
 use Rattle.network.proofs.LinksRead.LevelTurns.{levels-work}
-use Rattle.network.proofs.LinksRead.Offsets.{links-at, first-at, sum-below}
+use Rattle.network.proofs.LinksRead.Offsets.{first-at, sum-below}
 use Rattle.network.proofs.LinksRead.RootTurns.{root-past, root-link}
 use Rattle.network.proofs.LinksRead.TraceSized.{links-valid, lower-length}
 use Rattle.network.proofs.LinksRead.WorkLinks.{clear-zero}

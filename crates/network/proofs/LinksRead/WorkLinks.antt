@@ -16,10 +16,9 @@ use Rattle.matching.specs.Links.{linkBytes}
 use Rattle.fill.specs.Work.{workSize, linksAt, allLinks, traceWork, zeroWork, clearedWork}
 use Rattle.matching.proofs.Buffers.PartLengths.{length-links}
 use Rattle.fill.proofs.Room.LinksRoom.{linksLimit}
-use Rattle.fill.proofs.Buffers.Sizes.{work-size}
+use Rattle.fill.proofs.Buffers.Sizes.{work-size, links-at}
 use Rattle.fill.proofs.Counting.LinkPairs.{Links, Under, bytes-there}
 use Rattle.network.specs.Levels.{storedLimit}
-use Rattle.network.proofs.LinksRead.Offsets.{links-at}
 
 -- a link to one of few entries has a number of two bytes
 number-small : (k : Link) → Valid true linksLimit k → linkNumber k < storedLimit

@@ -8,7 +8,7 @@ use lib.ListN.{length, getD, drop, length-drop}
 use lib.Seq.{length-take-le, getD-take, getD-drop}
 use Rattle.diagram.specs.Networks.Bound.{mostVariables}
 use Rattle.fill.specs.Calls.{countsSize, countsOf}
-use Rattle.fill.proofs.Calls.TriedCounts.{counts-size}
+use Rattle.fill.proofs.Lowered.TrialSizes.{counts-size}
 
 module _ (cs : List ℕ) (p : ℕ) (level : p < mostVariables) (room : countsSize ≤ length cs) where
   pub level-room : mostVariables * p + mostVariables ≤ length cs

@@ -24,7 +24,8 @@ use Rattle.table.specs.State.{goodHeading, orderOf, stageOf, isNothing, reorder
 use Rattle.table.proofs.Held.{stage-good, heading-inputs, heading-order}
 use Rattle.fill.specs.Work.{trialsZero}
 use Rattle.fill.specs.Calls.{heldTable, enough, countsSize, trialCounts, triedCounts, trialsCounts, trialsWork, countsOf}
-use Rattle.fill.proofs.Calls.TriedCounts.{counts-size, put-here, tried-at, tried-kept, trials-counts, trials-work, counts-cost}
+use Rattle.fill.proofs.Calls.TriedCounts.{put-here, tried-at, tried-kept, trials-counts, trials-work, counts-cost}
+use Rattle.fill.proofs.Lowered.TrialSizes.{counts-size}
 use Rattle.sift.specs.inner.Counts.{countsUnder, MovedCounts}
 use Rattle.sift.specs.inner.Trials.{costAt}
 use Rattle.sift.proofs.Trying.ReorderedHeading.{heading-moved, take-moved, heading-after}

@@ -4,9 +4,10 @@ use mathlib.Core.Path.{sym, _∙_}
 use native.Mathlib.Omega.{arith}
 use borrow.Author.Needs.{needs}
 use denote.Ref.{now}
+use Rattle.table.proofs.Planes.PlaneSize.{plane-size}
+use Rattle.fill.proofs.Buffers.Sizes.{work-size}
 use Rattle.lent.proofs.Sizes.{roots-size}
 use Rattle.network_file.proofs.Format.FileSizes.{file-size}
-use Rattle.printed.proofs.Sizes.{plane-size, work-size}
 use Rattle.filed.proofs.FiledOutput.{all-left}
 use Rattle.filed.proofs.output.write_network_file.Statement.{statement}
 use Rattle.filed.proofs.output.write_network_file.Tie as tie

@@ -2,9 +2,10 @@
 use borrow.Author.Needs.{needs}
 use mathlib.Core.Path.{sym, _∙_}
 use native.Mathlib.Omega.{arith}
-use Rattle.fill.proofs.Calls.TriedCounts.{counts-size, counts-put, put-nowhere, put-short}
+use Rattle.fill.proofs.Calls.TriedCounts.{counts-put, put-nowhere, put-short}
 use Rattle.fill.proofs.counts.put_counts.Statement.{statement}
 use Rattle.fill.proofs.counts.put_counts.Tie as tie
+use Rattle.fill.proofs.Lowered.TrialSizes.{counts-size}
 
 returns : tie.Need-returns
 returns c = sym (put-nowhere _ _ _ (c .if1 .taken))

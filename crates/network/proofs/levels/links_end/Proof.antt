@@ -3,9 +3,9 @@
 use mathlib.Core.Path.{_≡_, ap, _∙_}
 use Prim.Native.Nat.{_≤_, _-_}
 use native.Mathlib.Omega.{arith}
-use Rattle.fill.proofs.Buffers.Sizes.{work-size}
+use Rattle.fill.proofs.Buffers.Sizes.{work-size, links-at}
 use Rattle.network.specs.Levels.{levelAt}
-use Rattle.network.proofs.LinksRead.Offsets.{links-at, first-at, next-at, within}
+use Rattle.network.proofs.LinksRead.Offsets.{first-at, next-at, within}
 use Rattle.network.proofs.levels.links_end.Statement.{statement}
 use Rattle.network.proofs.levels.links_end.Tie as tie
 use Rattle.network.proofs.levels.links_end.Reads as reads

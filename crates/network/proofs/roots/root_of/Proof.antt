@@ -4,8 +4,8 @@ use borrow.Author.Needs.{needs}
 use mathlib.Core.Path.{sym, ap, _∙_}
 use Prim.Native.Nat.{_+_, _*_}
 use denote.Ref.{now}
+use Rattle.fill.proofs.Buffers.Sizes.{links-at}
 use Rattle.network.specs.Levels.{storedAt, refAt}
-use Rattle.network.proofs.LinksRead.Offsets.{links-at}
 use Rattle.network.proofs.LinksRead.RootTurns.{root-past, root-link}
 use Rattle.network.proofs.roots.root_of.Statement.{statement}
 use Rattle.network.proofs.roots.root_of.Tie as tie

@@ -4,8 +4,9 @@ use mathlib.Core.Path.{sym, _∙_}
 use native.Mathlib.Omega.{arith}
 use borrow.Author.Needs.{needs}
 use denote.Ref.{now}
+use Rattle.table.proofs.Planes.PlaneSize.{plane-size}
+use Rattle.fill.proofs.Buffers.Sizes.{work-size}
 use Rattle.lent.proofs.Sizes.{roots-size}
-use Rattle.printed.proofs.Sizes.{plane-size, work-size}
 use Rattle.printed.proofs.Texts.FileOutput.{all-left}
 use Rattle.printed.proofs.output.print_table.Statement.{statement}
 use Rattle.printed.proofs.output.print_table.Tie as tie

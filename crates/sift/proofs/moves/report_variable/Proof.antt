@@ -10,7 +10,7 @@ use Rattle.diagram.proofs.Networks.Bound.{few-cost}
 use Rattle.table.specs.State.{orderOf}
 use Rattle.table.proofs.Held.{heading-inputs, heading-few}
 use Rattle.fill.specs.Calls.{heldTable}
-use Rattle.fill.proofs.Calls.TriedCounts.{counts-size}
+use Rattle.fill.proofs.Lowered.TrialSizes.{counts-size}
 use Rattle.sift.proofs.Trying.MovedCounts.{moved-total}
 use Rattle.sift.proofs.Reporting.Report.{counted-row}
 use Rattle.sift.proofs.moves.report_variable.Statement.{statement}

@@ -2,8 +2,7 @@
 -- Assumes nothing.
 use mathlib.Core.Path.{refl}
 use native.Mathlib.Omega.{arith}
-use Rattle.fill.proofs.Buffers.Sizes.{work-size}
-use Rattle.network.proofs.LinksRead.Offsets.{links-at}
+use Rattle.fill.proofs.Buffers.Sizes.{work-size, links-at}
 use borrow.Author.Needs.{needs}
 use Rattle.swapping.proofs.exchange.exchanged_links.Statement.{statement}
 use Rattle.swapping.proofs.exchange.exchanged_links.Tie as tie

@@ -10,8 +10,8 @@ use lib.ListN.{length, take, length-map, length-set}
 use lib.Seq.{length-take-le}
 use Rattle.diagram.specs.Networks.Bound.{mostVariables}
 use Rattle.diagram.specs.Exchanging.Exchange.{both}
+use Rattle.fill.proofs.Buffers.Sizes.{links-at}
 use Rattle.swapping.specs.inner.Exchange.{lentAt}
-use Rattle.network.proofs.LinksRead.Offsets.{links-at}
 use Rattle.swapping.proofs.AllLinks.{Linking, linking-top, linking-room, linking-next}
 use Rattle.swapping.proofs.AllLinks.{linked-entries, linked-work, trace-length, linksAbove}
 use Rattle.swapping.proofs.exchange.link_levels.Statement.{statement}

@@ -7,7 +7,7 @@ use native.Mathlib.Omega.{arith}
 use denote.Ref.{now}
 use lib.ListN.{length}
 use Rattle.diagram.specs.Exchanging.Exchange.{both}
-use Rattle.network.proofs.LinksRead.Offsets.{links-at}
+use Rattle.fill.proofs.Buffers.Sizes.{links-at}
 use Rattle.swapping.proofs.RootLinks.{Rooted, roots-none, roots-few, roots-more}
 use Rattle.swapping.proofs.exchange.link_roots.Statement.{statement}
 use Rattle.swapping.proofs.exchange.link_roots.Tie as tie
