@@ -19,7 +19,8 @@ class Import:
     """What a file brings in of a module: names one by one, or all of it under an alias."""
 
     def __init__(self, match, text):
-        self.crate, self.kind, self.module, names, alias = match.groups()
+        self.crate, kind, self.module, names, alias = match.groups()
+        self.place = self.crate, kind, self.module
         self.names = [name.split(" as ")[0].strip() for name in (names or "").split(",") if name.strip()]
         if alias:
             self.names = re.findall(rf"(?<![^\s(]){re.escape(alias)}\.([^\s(){{}}]+)", text)
@@ -30,8 +31,8 @@ class Module:
 
     def __init__(self, path):
         self.path = path
-        self.crate, self.kind, *rest = path.relative_to(CRATES).with_suffix("").parts
-        self.module = ".".join(rest)
+        self.crate, kind, *rest = path.relative_to(CRATES).with_suffix("").parts
+        self.place = self.crate, kind, ".".join(rest)
         self.text = path.read_text(encoding="utf-8")
         self.lines = self.text.split("\n")
         self.imports = [Import(match, self.text) for match in IMPORTED.finditer(self.text)]
@@ -46,7 +47,8 @@ class Module:
     def cites(self, name, besides=()):
         """Whether a line other than those says the name."""
         said = re.compile(rf"(?<!(?!{EDGE}).){re.escape(name)}(?=$|{EDGE})")
-        return any(at not in besides and not line.lstrip().startswith("--") and said.search(line) for at, line in enumerate(self.lines))
+        lines = (line for at, line in enumerate(self.lines) if at not in besides)
+        return any(said.search(line) for line in lines if not line.lstrip().startswith("--"))
 
     def _is_field(self, at, indent):
         above = (line for line in reversed(self.lines[:at]) if line.strip() and len(line) - len(line.lstrip()) < indent)

@@ -1,6 +1,5 @@
-"""Tests that the crates' files are in order: small folders, inner definitions cited inside alone, no law that nobody reads."""
+"""Tests that the crates' files are in order: small folders, inner definitions, no law that nobody reads."""
 
-import pathlib
 import re
 import unittest
 
@@ -35,15 +34,15 @@ class Laws(unittest.TestCase):
     def test_every_law_is_cited_or_named_in_the_map(self):
         named = set(re.findall(r"`([^`\s]+)`", (ROOT / "docs" / "MAP.md").read_text(encoding="utf-8")))
         everything = modules()
-        cited = {(i.crate, i.kind, i.module, name) for module in everything for i in module.imports for name in i.names}
-        idle = []
-        for module in everything:
-            if module.path.suffix == ".rt" or module.path.name == "Proof.antt":
-                continue
-            for name, lines in module.definitions():
-                if (module.crate, module.kind, module.module, name) in cited or name in named or module.cites(name, lines):
-                    continue
-                idle.append(f"{pathlib.Path(module.path).relative_to(ROOT)}: {name}")
+        imports = [imported for module in everything for imported in module.imports]
+        cited = {(*imported.place, name) for imported in imports for name in imported.names}
+        texts = [module for module in everything if module.path.suffix == ".antt" and module.path.name != "Proof.antt"]
+        idle = [
+            f"{module.path.relative_to(ROOT)}: {name}"
+            for module in texts
+            for name, lines in module.definitions()
+            if name not in named and (*module.place, name) not in cited and not module.cites(name, lines)
+        ]
         self.assertEqual(idle, [])
 
 
