@@ -13,8 +13,8 @@ use Rattle.lists.proofs.Lists.Membership.{eqb-equality, all-has, keep-cong, kee
 use Rattle.diagram.specs.Networks.Diagram.{Node, Diagram}
 use Rattle.diagram.specs.Canonical.Structure.{nodeOn, atLevel, targets, spread, standing, range, numbered}
 use Rattle.diagram.proofs.Networks.Reference.{target-reference}
-use Rattle.lent.specs.Lent.{lentNode, lentDiagram, lentCells}
-use Rattle.lent.proofs.Nodes.{lent-length, lent-at}
+use Rattle.lent.specs.Lent.{cellsOf, numberIn, lentNode, lentCells, lentDiagram}
+use Rattle.lent.proofs.Nodes.{cells-length, cell-at}
 use Rattle.canonical.specs.declared.walk.Numbered.the-variants.{Next, Broken}
 use Rattle.canonical.specs.inner.Walk.{standsAt, lentStanding, lentSpread, isBelow, followed}
 
@@ -43,7 +43,7 @@ numbered-roots cs rs rs′ (suc d) p next ks =
 
 pub lent-numbered : (count m : ℕ) (cells roots : List ℕ) (d p next : ℕ) (ks : List ℕ)
     → numbered true (lentDiagram count m cells roots) d p next ks ≡ numbered true (lentCells count cells) d p next ks
-unfolding lentDiagram lentCells
+unfolding lentDiagram cellsOf
 lent-numbered count m cells roots d p next ks =
     numbered-roots (lentCells count cells .nodes) (lentDiagram count m cells roots .roots) [] d p next ks
 
@@ -51,12 +51,12 @@ module _ (count : ℕ) (cells : List ℕ) where
   node-on : (k : ℕ) → k < count → nodeOn true (lentCells count cells) k ≡ lentNode cells k
   node-on k h =
       ap (λ (i : ℕ). getD (lentCells count cells .nodes) i (record { level = 0; low = 0; high = 0 })) (target-reference true k false)
-      ∙ lent-at count cells k (record { level = 0; low = 0; high = 0 }) h
+      ∙ cell-at count (numberIn cells) k (record { level = 0; low = 0; high = 0 }) h
 
   -- the end of the walk
   pub numbered-end : (p next : ℕ) (ks : List ℕ) → eqb next count ≡ numbered true (lentCells count cells) 0 p next ks
   unfolding numbered
-  numbered-end p next ks = ap (eqb next) (sym (lent-length count cells))
+  numbered-end p next ks = ap (eqb next) (sym (cells-length count (numberIn cells)))
 
   module _ (p : ℕ) where
     lent-standing : (ks : List ℕ) → T (all (isBelow count) ks) → standing true (lentCells count cells) p ks ≡ lentStanding cells p ks

@@ -6,7 +6,7 @@ use mathlib.Core.List.{List}
 use mathlib.Core.Logic.{⊎-elim}
 use Prim.Native.Nat.{ℕ, _+_, _≤_, _<_}
 use native.Mathlib.Omega.{arith}
-use lib.Dec.{T, eqb, ltb, ltb→lt, leb→le}
+use lib.Dec.{T, eqb, ltb, ltb→lt}
 use lib.ListN.{length, getD, take}
 use lib.Seq.{length-take-le, getD-take}
 use Rattle.lists.specs.Lists.{all, distinct, firsts}
@@ -15,8 +15,9 @@ use Rattle.lists.proofs.Lists.Membership.{all-at}
 use Rattle.lists.proofs.Numbers.Compared.{all-upTo-at}
 use Rattle.diagram.specs.Networks.Diagram.{later, refers, nodeAt, sameNode, nodeGood}
 use Rattle.diagram.specs.Canonical.Structure.{nodeReduced, allTargets, numbered, structured}
-use Rattle.lent.specs.Lent.{lentNode, lentDiagram, lentCells}
-use Rattle.lent.proofs.Nodes.{lent-length, all-nodes}
+use Rattle.lent.specs.Lent.{numberIn, lentNode, lentCells, lentDiagram}
+use Rattle.lent.proofs.Nodes.{all-nodes}
+use Rattle.lent.proofs.Tested.{refers-below}
 use Rattle.canonical.specs.inner.Reduced.{lentNodes, reducedNodes}
 use Rattle.canonical.specs.inner.Walk.{Own}
 use Rattle.canonical.proofs.Numbering.{lent-numbered}
@@ -49,13 +50,11 @@ module _ (count : ℕ) (cells : List ℕ) where
 
   -- references of a well-formed diagram
 
-  refers-below : (r : ℕ) → T (refers true (lentCells count cells) r) → r ≤ count + count + 1
-  refers-below r t = omega (arith, leb→le r _ t, lent-length count cells)
-
   later-below : (p r : ℕ) → T (later true (lentCells count cells) p r) → r ≤ count + count + 1
   later-below p r t =
       ⊎-elim (λ q. omega (arith, ltb→lt r 2 q))
-      (λ q. refers-below r (and-l (refers true (lentCells count cells) r) (ltb p (nodeAt true (lentCells count cells) r .level)) q))
+      (λ q. refers-below count (numberIn cells) r
+      (and-l (refers true (lentCells count cells) r) (ltb p (nodeAt true (lentCells count cells) r .level)) q))
       (or-cases (ltb r 2) (refers true (lentCells count cells) r && ltb p (nodeAt true (lentCells count cells) r .level)) t)
 
   pub own-edges : (n : ℕ) → T (all (nodeGood true n (lentCells count cells)) (lentCells count cells .nodes)) → Own count cells
@@ -74,11 +73,11 @@ module _ (count : ℕ) (cells : List ℕ) where
       both k h =
           and-r (ltb (lentNode cells k .level) n) _
           (all-upTo-at (λ i. nodeGood true n (lentCells count cells) (lentNode cells i)) count
-          (subst T (all-nodes count cells (nodeGood true n (lentCells count cells))) t) k h)
+          (subst T (all-nodes count (numberIn cells) (nodeGood true n (lentCells count cells))) t) k h)
 
   pub own-roots : (roots : List ℕ) (m : ℕ) → m ≤ length roots → T (all (refers true (lentCells count cells)) (take m roots))
       → (j : ℕ) → j < m → getD roots j 0 ≤ count + count + 1
   own-roots roots m f t j h =
-      refers-below (getD roots j 0)
+      refers-below count (numberIn cells) (getD roots j 0)
       (subst (λ (r : ℕ). T (refers true (lentCells count cells) r)) (getD-take m roots j 0 h)
       (all-at (refers true (lentCells count cells)) (take m roots) t j 0 (omega (arith, length-take-le m roots f))))

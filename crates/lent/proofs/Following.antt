@@ -8,8 +8,8 @@ use Prim.Native.Nat.{ℕ, zero, suc, _+_, _*_, _-_, _/_, _^_, _≤_, _<_}
 use native.Mathlib.Omega.{arith}
 use borrow.Author.Tests.{lt-ltb, le-ltb}
 use lib.Bits.{bitAnd}
-use lib.Dec.{T, eqb, ltb, leb→le}
-use lib.ListN.{length, getD, take}
+use lib.Dec.{T, eqb, ltb}
+use lib.ListN.{getD, take}
 use lib.Seq.{getD-take}
 use Rattle.lists.specs.Bits.{flip, digit, bit, packed}
 use Rattle.lists.proofs.Bits.Masks.{bit-masked}
@@ -21,11 +21,10 @@ use Rattle.diagram.proofs.Networks.Reference.{from, from-reached}
 use Rattle.diagram.proofs.Networks.Right.{from-refers}
 use Rattle.diagram.proofs.Networks.Function.{Good, node-level, node-edge, gives-constant}
 use Rattle.diagram.proofs.Networks.Evaluate.{from-top, gives-edge}
-use Rattle.lent.specs.Lent.{lentNode, lentCells}
+use Rattle.lent.specs.Lent.{numberIn, lentNode, lentCells}
 use Rattle.lent.specs.inner.Cells.{Levelled, levelBit}
 use Rattle.lent.proofs.LevelBits.{level-packed}
-use Rattle.lent.proofs.Nodes.{lent-length}
-use Rattle.lent.proofs.Tested.{node-behind}
+use Rattle.lent.proofs.Tested.{refers-below, node-behind}
 
 -- the bit of the variable at level p, by a shift and a mask
 
@@ -43,10 +42,10 @@ bit-shifted n order row p h =
 module _ (n count : ℕ) (cells : List ℕ) (ok : Levelled n count cells) (r : ℕ) (big : 2 ≤ r)
     (own : T (refers true (lentCells count cells) r)) where
   pub own-le : r ≤ count + count + 1
-  own-le = let h = leb→le r (2 * length (lentCells count cells .nodes) + 1) own in omega (arith, lent-length count cells)
+  own-le = refers-below count (numberIn cells) r own
 
   behind : nodeAt true (lentCells count cells) r ≡ lentNode cells (r / 2 - 1)
-  behind = node-behind count cells r big own-le
+  behind = node-behind count (numberIn cells) r big own-le
 
   pub level-below : getD cells (3 * (r / 2 - 1)) 0 < n
   level-below =

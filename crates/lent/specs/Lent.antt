@@ -7,11 +7,30 @@ use Rattle.lists.specs.Lists.{upTo}
 use Rattle.diagram.specs.Networks.Bound.{mostOutputs}
 use Rattle.diagram.specs.Networks.Diagram.{Node, Diagram}
 
--- 'cells of three 16-bit numbers': cell i, from 0
-abbrev pub lentNode : List ℕ → ℕ → Node
-lentNode cells i = record { level = getD cells (3 * i) 0; low = getD cells (3 * i + 1) 0; high = getD cells (3 * i + 2) 0 }
+-- 'cells of three 16-bit numbers', whatever holds the numbers: cell i, from 0
+abbrev pub nodeOf : (ℕ → ℕ) → ℕ → Node
+nodeOf number i = record { level = number (3 * i); low = number (3 * i + 1); high = number (3 * i + 2) }
 
--- the counted cells and the first m roots
+-- the counted cells and the first m roots, by their numbers
+abbrev pub diagramOf : ℕ → ℕ → (ℕ → ℕ) → (ℕ → ℕ) → Diagram
+diagramOf count m number root = record { nodes = map (nodeOf number) (upTo count); roots = map root (upTo m) }
+
+-- a test of a cell, and what a row gives at a reference, look at the nodes alone
+unfoldable pub cellsOf : ℕ → (ℕ → ℕ) → Diagram
+cellsOf count number = record { nodes = map (nodeOf number) (upTo count); roots = [] }
+
+-- number x of a lent list, and the cells whose numbers one has
+
+abbrev pub numberIn : List ℕ → ℕ → ℕ
+numberIn numbers x = getD numbers x 0
+
+abbrev pub lentNode : List ℕ → ℕ → Node
+lentNode cells i = nodeOf (numberIn cells) i
+
+abbrev pub lentCells : ℕ → List ℕ → Diagram
+lentCells count cells = cellsOf count (numberIn cells)
+
+-- the counted cells and the first m roots, where so many are lent
 unfoldable pub lentDiagram : ℕ → ℕ → List ℕ → List ℕ → Diagram
 lentDiagram count m cells roots = record { nodes = map (lentNode cells) (upTo count); roots = take m roots }
 
@@ -23,7 +42,3 @@ numbersOf (c ∷ cs) = c .level ∷ c .low ∷ c .high ∷ numbersOf cs
 -- how many roots are lent: '16 roots'; src/lib.rt has the constant, ROOTS
 unfoldable pub rootsSize : ℕ
 rootsSize = mostOutputs
-
--- a test of a cell, and what a row gives at a reference, look at the nodes alone
-unfoldable pub lentCells : ℕ → List ℕ → Diagram
-lentCells count cells = record { nodes = map (lentNode cells) (upTo count); roots = [] }

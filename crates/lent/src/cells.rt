@@ -4,10 +4,10 @@ use table::State;
 ghost use mathlib.Core.Path.{_≡_};
 ghost use mathlib.Core.Bool.{true};
 ghost use Prim.Native.Nat.{_/_, _≤_, _<_};
-ghost use lib.ListN.{length, take};
-ghost use Rattle.lists.specs.Lists.{all};
+ghost use lib.ListN.{length};
+ghost use Rattle.lists.specs.Lists.{all, upTo};
 ghost use Rattle.diagram.specs.Networks.Diagram.{later, refers, nodeGood, wellFormed};
-ghost use Rattle.lent.specs.Lent.{lentNode, lentDiagram, lentCells};
+ghost use Rattle.lent.specs.Lent.{numberIn, lentNode, lentCells, lentDiagram};
 ghost use Rattle.lent.specs.Evaluate.{goodCells};
 
 // Whether a reference is a constant, or to a counted cell at a level after p.
@@ -58,7 +58,7 @@ fn nodes_good(cells: &[u16], count: usize, n: usize) -> bool
 // Whether each of the first m roots is a constant or to a counted cell.
 fn roots_good(cells: &[u16], count: usize, roots: &[u16], m: usize) -> bool
     requires { ⌜ (count ≤ length (now cells) / 3) × (m ≤ length (now roots)) ⌝ }
-    ensures { λ x. ⌜ x ≡ all (refers true (lentCells count (now (cells .entry)))) (take m (now (roots .entry))) ⌝ }
+    ensures { λ x. ⌜ x ≡ all (λ j. refers true (lentCells count (now (cells .entry))) (numberIn (now (roots .entry)) j)) (upTo m) ⌝ }
 {
     let most = count + count + 1;
     let mut j: usize = 0;

@@ -2,17 +2,17 @@
 -- 18–49 the sixteen roots. Kind 5 blocks carry 84 cells of three 16-bit numbers each.' And its refusals: 1 to 7, in sequence.
 -- Assumes nothing.
 use mathlib.Core.Bool.{_&&_}
-use mathlib.Core.List.{List, map}
+use mathlib.Core.List.{List}
 use Prim.Native.Nat.{ℕ, suc, _+_, _*_, _-_, _/_, _%_, min}
 use lib.Dec.{eqb}
 use lib.ListN.{length}
-use Rattle.lists.specs.Lists.{upTo}
 use Rattle.diagram.specs.Networks.Diagram.{Node, Diagram}
 use Rattle.block.specs.Block.{blockSize, contentAt, wholeBlocks, byte, goodCheck, goodNumber, unusedZero, unusedBetween}
 use Rattle.table.specs.declared.Answer.{Answer}
 use Rattle.table.specs.declared.Answer.the-variants.{Done, BadLength, BadCheck, BadKind, BadContent}
 use Rattle.table.specs.Answer.{unless, unlessRefused, firstRefusal}
 use Rattle.table.specs.File.{fileInputs, fileOutputs, shapeAnswer}
+use Rattle.lent.specs.Lent.{nodeOf, diagramOf}
 
 -- the cells of a block, and its numbers
 abbrev pub blockCells : ℕ
@@ -43,12 +43,11 @@ abbrev pub cellNumber : List ℕ → ℕ → ℕ
 cellNumber file x = contentNumber file (suc (x / blockNumbers)) (x % blockNumbers)
 
 abbrev pub fileNode : List ℕ → ℕ → Node
-fileNode file i = record { level = cellNumber file (3 * i); low = cellNumber file (3 * i + 1); high = cellNumber file (3 * i + 2) }
+fileNode file i = nodeOf (cellNumber file) i
 
 -- the counted cells and the first m roots
 unfoldable pub fileDiagram : List ℕ → Diagram
-fileDiagram file =
-    record { nodes = map (fileNode file) (upTo (fileCount file)); roots = map (fileRoot file) (upTo (fileOutputs file)) }
+fileDiagram file = diagramOf (fileCount file) (fileOutputs file) (cellNumber file) (fileRoot file)
 
 -- the blocks that so many cells take
 unfoldable pub cellBlocks : ℕ → ℕ

@@ -34,8 +34,8 @@ use Rattle.fill.specs.Work.{workSize, linksAt, allLinks}
 use Rattle.fill.specs.Counts.{differingPairs}
 use Rattle.fill.proofs.Buffers.Sizes.{work-size, links-at}
 use Rattle.fill.proofs.Counting.LinkPairs.{Links}
-use Rattle.lent.specs.Lent.{lentDiagram, lentCells}
-use Rattle.lent.proofs.Nodes.{lent-length}
+use Rattle.lent.specs.Lent.{cellsOf, numberIn, lentDiagram}
+use Rattle.lent.proofs.Nodes.{cells-length}
 use Rattle.lent.proofs.Tested.{node-behind}
 use Rattle.network.specs.Levels.{levelAt}
 use Rattle.swapping.specs.Swap.{heldDiagram, cellTable, exchangedOrder}
@@ -84,8 +84,8 @@ module _ (s : State) (p : ℕ) (work roots cells : List ℕ) (P : Passed s p wor
       (exchanged-levels (s .n) p (orderOf s) (ordered s (P .tested .held)) (P .place))
 
   own : (r : ℕ) → 2 ≤ r → r ≤ largest true (length (D .nodes)) → lentAt cells r ≡ nodeAt true D r
-  unfolding lentDiagram lentCells
-  own r h k = sym (node-behind (s .count) cells r h (omega (arith, lent-length (s .count) cells)))
+  unfolding lentDiagram cellsOf
+  own r h k = sym (node-behind (s .count) (numberIn cells) r h (omega (arith, cells-length (s .count) (numberIn cells))))
 
   held-trace : kss t other ≡ exchangedTrace (lentAt cells) p (s .n) rootPairs
   unfolding lentDiagram

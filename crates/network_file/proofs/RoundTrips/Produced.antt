@@ -20,10 +20,9 @@ use Rattle.canonical.proofs.Answered.{Success}
 use Rattle.network_file.specs.File.{blockNumbers, fileCount, fileRoot, cellNumber}
 use Rattle.network_file.specs.Read.{readAnswer, readState}
 use Rattle.network_file.specs.Write.{fileSize, writeAnswer, writtenFile}
-use Rattle.network_file.specs.inner.Cells.{fileCells, fileRoots}
 use Rattle.network_file.proofs.Format.AcceptedNetwork.{accepted-network}
 use Rattle.network_file.proofs.Format.SealedBlock.{Bytes}
-use Rattle.network_file.proofs.Reading.Copied.{outputs-fit, own-copy}
+use Rattle.network_file.proofs.Reading.Copied.{outputs-fit, fileCells, fileRoots, own-copy}
 use Rattle.network_file.proofs.Reading.Checked.{shape-of}
 use Rattle.network_file.proofs.Reading.ReadAnswer.{success}
 use Rattle.network_file.proofs.Writing.WriteCall.{writable, network-passed}
@@ -46,26 +45,25 @@ pub record Produced (file : List ℕ) : Type 0 where
 
 module _ (file values care work roots cells : List ℕ) where
   produced : T (areBytes file) → T (done (readAnswer file values care work roots cells)) → Produced file
-  unfolding fileCells fileRoots
   produced t d =
       let small : Bytes file = bytes-small file t in
       let r = success file values care work roots cells (of-T d) in
       let W : List ℕ = replicate workSize 0 in
       let B : List ℕ = replicate fileSize 0 in
-      let again = copy-written file (fileRoots file) (fileCells (fileCount file) file) W B t (r .accepted) (r .checked)
+      let again = copy-written file (fileRoots file) (fileCells file) W B t (r .accepted) (r .checked)
       (own-copy file (outputs-fit file (shape-of file (r .accepted)))) (omega (arith, length-replicate {A = ℕ} workSize 0))
       (omega (arith, length-replicate {A = ℕ} fileSize 0)) in
       record {
         state = readState file;
         roots = fileRoots file;
-        cells = fileCells (fileCount file) file;
+        cells = fileCells file;
         work = W;
         buffer = B;
         roots-numbers = small-listed numberLimit rootsSize (fileRoot file) (λ i g. content-small file small 0 (7 + i));
         cells-numbers = small-listed numberLimit (3 * fileCount file) (cellNumber file)
             (λ i g. content-small file small (suc (i / blockNumbers)) (i % blockNumbers));
         success = ap done (again .answered);
-        first = subst (λ (n : ℕ). take n (writtenFile (readState file) (fileRoots file) (fileCells (fileCount file) file) W B) ≡ file)
+        first = subst (λ (n : ℕ). take n (writtenFile (readState file) (fileRoots file) (fileCells file) W B) ≡ file)
             (accepted-network file (to-T (r .accepted)) .long) (again .first);
       }
 

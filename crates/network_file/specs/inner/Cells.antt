@@ -1,11 +1,10 @@
--- A network file's cells and roots as lists of numbers, as they are lent, and the tests of them.
+-- The tests of a network file's cells, and a file that passes every test.
 -- Assumes nothing.
 use mathlib.Core.Path.{_≡_}
 use mathlib.Core.Bool.{true}
-use mathlib.Core.List.{List, map}
+use mathlib.Core.List.{List}
 use Prim.Native.Nat.{ℕ, _*_, _≤_}
 use lib.ListN.{length}
-use Rattle.lists.specs.Lists.{upTo}
 use Rattle.diagram.specs.Networks.Diagram.{wellFormed}
 use Rattle.diagram.specs.Canonical.Computed.{canonical}
 use Rattle.table.specs.declared.Answer.{Answer}
@@ -14,15 +13,7 @@ use Rattle.table.specs.Answer.{unless, done}
 use Rattle.table.specs.File.{fileInputs, fileOutputs, fileOrder}
 use Rattle.table.specs.Calls.{planeSize}
 use Rattle.lent.specs.Lent.{rootsSize}
-use Rattle.network_file.specs.File.{fileCount, fileRoot, cellNumber, fileDiagram, networkFileAnswer}
-
--- the numbers of the first `count` cells
-unfoldable pub fileCells : ℕ → List ℕ → List ℕ
-fileCells count file = map (cellNumber file) (upTo (3 * count))
-
--- all the roots that a heading has
-unfoldable pub fileRoots : List ℕ → List ℕ
-fileRoots file = map (fileRoot file) (upTo rootsSize)
+use Rattle.network_file.specs.File.{fileCount, fileDiagram, networkFileAnswer}
 
 -- the last two tests: 24, then 32
 unfoldable pub checkedAnswer : List ℕ → Answer

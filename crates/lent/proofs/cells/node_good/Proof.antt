@@ -4,6 +4,7 @@ use borrow.Author.Needs.{needs}
 use mathlib.Core.Path.{sym, _∙_}
 use borrow.Author.Tests.{not-true, not-false}
 use denote.Ref.{now}
+use Rattle.lent.specs.Lent.{numberIn}
 use Rattle.lent.proofs.Tested.{node-deep, node-low-bad, node-low-good}
 use Rattle.lent.proofs.cells.node_good.Statement.{statement}
 use Rattle.lent.proofs.cells.node_good.Tie as tie
@@ -18,7 +19,7 @@ returns : tie.Need-returns
 returns c =
     let a = c .before .before .before .args in
     let p = c .before .lent-number in
-    sym (node-deep (a .count) (now (a .cells)) (a .n) (a .i) (p .result) (p .ensures .0) (search needs))
+    sym (node-deep (a .count) (numberIn (now (a .cells))) (a .n) (a .i) (p .result) (p .ensures .0) (search needs))
 
 add-lent-number : tie.Need-add-lent-number
 add-lent-number c = search needs
@@ -36,7 +37,7 @@ returns-2 c =
     let l = c .before .before .lent-number2 in
     let t = c .before .later-than in
     sym
-    (node-low-bad (a .count) (now (a .cells)) (a .n) (a .i) (p .result) (p .ensures .0) (l .result) (l .ensures .0)
+    (node-low-bad (a .count) (numberIn (now (a .cells))) (a .n) (a .i) (p .result) (p .ensures .0) (l .result) (l .ensures .0)
     (sym (t .ensures) ∙ not-true (t .result) (c .if2 .taken)))
 
 add-lent-number-2 : tie.Need-add-lent-number-2
@@ -57,7 +58,7 @@ returns-3 c =
     let h = c .before .lent-number3 in
     c .later-than2 .ensures
     ∙ sym
-    (node-low-good (a .count) (now (a .cells)) (a .n) (a .i) (p .result) (p .ensures .0) (l .result) (l .ensures .0)
+    (node-low-good (a .count) (numberIn (now (a .cells))) (a .n) (a .i) (p .result) (p .ensures .0) (l .result) (l .ensures .0)
     (search needs) (sym (t .ensures) ∙ not-false (t .result) (c .before .before .if2 .left))
     (h .result) (h .ensures .0))
 

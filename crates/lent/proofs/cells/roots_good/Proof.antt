@@ -7,12 +7,13 @@ use mathlib.Core.Bool.{true}
 use Prim.Native.Nat.{_≤_, _-_}
 use denote.Ref.{now}
 use Rattle.lists.specs.Lists.{all, upTo}
+use Rattle.lent.specs.Lent.{numberIn}
 use Rattle.lent.proofs.Tested.{ownRoot, roots-bad, roots-more, roots-good}
 use Rattle.lent.proofs.cells.roots_good.Statement.{statement}
 use Rattle.lent.proofs.cells.roots_good.Tie as tie
 
 abbrev Inv-loop : tie.InvT-loop
-Inv-loop cells count roots m most j₀ j = (j ≤ m) × (all (ownRoot count cells roots) (upTo j) ≡ true)
+Inv-loop cells count roots m most j₀ j = (j ≤ m) × (all (ownRoot count (numberIn cells) (numberIn roots)) (upTo j) ≡ true)
 
 abbrev μ-loop : tie.MeasureT-loop
 μ-loop cells count roots m most j₀ j = m - j
@@ -31,10 +32,10 @@ lent-number-requires c κs = search needs
 
 returns : tie.Need-returns Inv-loop μ-loop
 returns c =
-    let b = c .before .before .before .before .before .before in
-    let a = b .args in
+    let a = c .before .before .before .before .before .before .args in
+    let l = c .before .before .before .loop in
     let g = c .before .lent-number in
-    sym (roots-bad (a .count) (now (a .cells)) (now (a .roots)) (a .m) (b .pre .1) (c .before .before .before .loop .j) (g .result)
+    sym (roots-bad (a .count) (numberIn (now (a .cells))) (numberIn (now (a .roots))) (a .m) (l .j) (g .result)
     (search needs) (g .ensures .0) (search needs))
 
 add-j : tie.Need-add-j Inv-loop μ-loop
@@ -45,21 +46,19 @@ loop-less c = search needs
 
 loop-again : tie.Need-loop-again Inv-loop μ-loop
 loop-again c =
-    let b = c .before .before .before .before .before .before in
-    let a = b .args in
+    let a = c .before .before .before .before .before .before .args in
     let l = c .before .before .before .loop in
     let g = c .before .lent-number in (
       search needs,
-      roots-more (a .count) (now (a .cells)) (now (a .roots)) (a .m) (b .pre .1) (l .j) (g .result) (g .ensures .0) (search needs)
+      roots-more (a .count) (numberIn (now (a .cells))) (numberIn (now (a .roots))) (l .j) (g .result) (g .ensures .0) (search needs)
           (l .inv .1),
     )
 
 returns-2 : tie.Need-returns-2 Inv-loop μ-loop
 returns-2 c =
-    let b = c .before .before .before .before in
-    let a = b .args in
+    let a = c .before .before .before .before .args in
     let l = c .before .loop in
-    sym (roots-good (a .count) (now (a .cells)) (now (a .roots)) (a .m) (b .pre .1) (l .j) (search needs) (l .inv .1))
+    sym (roots-good (a .count) (numberIn (now (a .cells))) (numberIn (now (a .roots))) (a .m) (l .j) (search needs) (l .inv .1))
 
 pub roots-good-spec : {M : Type 1} → statement M
 roots-good-spec =

@@ -1,30 +1,28 @@
--- `network_file::good::file_good` meets its contract: the roots, then the cells, of the file's diagram as lent numbers.
+-- `network_file::good::file_good` meets its contract: the roots, then the cells.
 -- Assumes nothing.
-use mathlib.Core.Path.{_≡_, sym, ap, _∙_}
+use mathlib.Core.Path.{_≡_, sym, ap₂, _∙_}
 use mathlib.Core.Bool.{true}
+use Prim.Native.Nat.{ℕ}
 use borrow.Author.Needs.{needs}
 use borrow.Author.Tests.{not-true, not-false}
 use denote.Ref.{now}
-use native.Mathlib.Omega.{arith}
 use Rattle.diagram.specs.Networks.Diagram.{wellFormed}
-use Rattle.lent.specs.Lent.{lentDiagram}
-use Rattle.lent.proofs.Sizes.{roots-size}
+use Rattle.lent.specs.Lent.{diagramOf}
 use Rattle.lent.proofs.Tested.{formed-not, formed-rest}
-use Rattle.network_file.specs.File.{fileDiagram}
-use Rattle.network_file.specs.inner.Cells.{fileCells, fileRoots}
-use Rattle.network_file.proofs.Reading.Copied.{roots-long, own-diagram}
+use Rattle.network_file.specs.File.{fileRoot, cellNumber, fileDiagram}
 use Rattle.network_file.proofs.good.file_good.Statement.{statement}
 use Rattle.network_file.proofs.good.file_good.Tie as tie
 
+-- the count and the outputs in hand are the file's
 own-formed : (c : tie.Start)
     → let a = c .args in
     let f = now (a .file) in
-    wellFormed true (a .n) (a .m) (lentDiagram (a .count) (a .m) (fileCells (a .count) f) (fileRoots f))
-    ≡ wellFormed true (a .n) (a .m) (fileDiagram f)
+    wellFormed true (a .n) (a .m) (diagramOf (a .count) (a .m) (cellNumber f) (fileRoot f)) ≡ wellFormed true (a .n) (a .m) (fileDiagram f)
+unfolding fileDiagram
 own-formed c =
     let a = c .args in
-    ap (wellFormed true (a .n) (a .m))
-    (own-diagram (now (a .file)) (omega (arith, roots-size, c .pre .0 .1)) (a .count) (a .m) (c .pre .0 .0) (c .pre .0 .1))
+    let f = now (a .file) in
+    ap₂ (λ (x y : ℕ). wellFormed true (a .n) (a .m) (diagramOf x y (cellNumber f) (fileRoot f))) (c .pre .0 .0) (c .pre .0 .1)
 
 roots-good-requires : tie.Need-roots-good-requires
 roots-good-requires c κs = search needs
@@ -37,7 +35,7 @@ returns c =
     let g = c .before .roots-good in
     sym
     (sym (own-formed s)
-    ∙ formed-not (a .count) (fileCells (a .count) f) (fileRoots f) (a .m) (omega (arith, roots-long f, roots-size)) (a .n)
+    ∙ formed-not (a .count) (cellNumber f) (fileRoot f) (a .m) (a .n)
     (sym (g .ensures) ∙ not-true (g .result) (c .if1 .taken)))
 
 nodes-good-requires : tie.Need-nodes-good-requires
@@ -51,7 +49,7 @@ returns-2 c =
     let g = c .before .before .roots-good in
     c .nodes-good .ensures
     ∙ sym
-    (formed-rest (a .count) (fileCells (a .count) f) (fileRoots f) (a .m) (omega (arith, roots-long f, roots-size)) (a .n)
+    (formed-rest (a .count) (cellNumber f) (fileRoot f) (a .m) (a .n)
     (sym (g .ensures) ∙ not-false (g .result) (c .before .if1 .left)))
     ∙ own-formed s
 

@@ -2,20 +2,17 @@
 -- Assumes nothing.
 use borrow.Author.Needs.{needs}
 use mathlib.Core.Path.{sym, ap, _∙_}
-use Prim.Native.Nat.{_*_, _-_, _/_}
-use native.Mathlib.Omega.{arith}
 use denote.Ref.{now}
 use lib.Dec.{ltb}
-use Rattle.network_file.specs.inner.Cells.{fileCells}
 use Rattle.lent.proofs.Tested.{later-constant, later-past, later-own}
-use Rattle.network_file.proofs.Reading.Copied.{cell-read}
+use Rattle.network_file.specs.File.{cellNumber}
 use Rattle.network_file.proofs.good.later_than.Statement.{statement}
 use Rattle.network_file.proofs.good.later_than.Tie as tie
 
 returns : tie.Need-returns
 returns c =
     let a = c .before .before .args in
-    sym (later-constant (a .count) (fileCells (a .count) (now (a .file))) (a .p) (a .r) (c .if1 .taken))
+    sym (later-constant (a .count) (cellNumber (now (a .file))) (a .p) (a .r) (c .if1 .taken))
 
 add-if2 : tie.Need-add-if2
 add-if2 c = search needs
@@ -26,7 +23,7 @@ add-if2-2 c = search needs
 returns-2 : tie.Need-returns-2
 returns-2 c =
     let a = c .before .before .before .args in
-    sym (later-past (a .count) (fileCells (a .count) (now (a .file))) (a .p) (a .r) (search needs) (search needs))
+    sym (later-past (a .count) (cellNumber (now (a .file))) (a .p) (a .r) (search needs) (search needs))
 
 sub-cell-number : tie.Need-sub-cell-number
 sub-cell-number c = search needs
@@ -40,9 +37,8 @@ cell-number-requires c κs = search needs
 returns-3 : tie.Need-returns-3
 returns-3 c =
     let a = c .before .before .before .before .args in
-    let x = c .cell-number in
-    ap (ltb (a .p)) (cell-read (a .count) (now (a .file)) (3 * (a .r / 2 - 1)) (x .result) (omega arith) (x .ensures .0))
-    ∙ sym (later-own (a .count) (fileCells (a .count) (now (a .file))) (a .p) (a .r) (search needs) (search needs))
+    ap (ltb (a .p)) (c .cell-number .ensures .0)
+    ∙ sym (later-own (a .count) (cellNumber (now (a .file))) (a .p) (a .r) (search needs) (search needs))
 
 pub later-than-spec : {M : Type 1} → statement M
 later-than-spec =

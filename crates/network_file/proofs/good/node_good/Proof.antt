@@ -3,12 +3,9 @@
 use borrow.Author.Needs.{needs}
 use mathlib.Core.Path.{sym, _∙_}
 use borrow.Author.Tests.{not-true, not-false}
-use Prim.Native.Nat.{_+_, _*_}
-use native.Mathlib.Omega.{arith}
 use denote.Ref.{now}
-use Rattle.network_file.specs.inner.Cells.{fileCells}
 use Rattle.lent.proofs.Tested.{node-deep, node-low-bad, node-low-good}
-use Rattle.network_file.proofs.Reading.Copied.{cell-read}
+use Rattle.network_file.specs.File.{cellNumber}
 use Rattle.network_file.proofs.good.node_good.Statement.{statement}
 use Rattle.network_file.proofs.good.node_good.Tie as tie
 
@@ -21,11 +18,8 @@ cell-number-requires c κs = search needs
 returns : tie.Need-returns
 returns c =
     let a = c .before .before .before .args in
-    let f = now (a .file) in
     let p = c .before .cell-number in
-    sym
-    (node-deep (a .count) (fileCells (a .count) f) (a .n) (a .i)
-    (p .result) (cell-read (a .count) f (3 * a .i) (p .result) (omega arith) (p .ensures .0)) (search needs))
+    sym (node-deep (a .count) (cellNumber (now (a .file))) (a .n) (a .i) (p .result) (p .ensures .0) (search needs))
 
 add-cell-number : tie.Need-add-cell-number
 add-cell-number c = search needs
@@ -39,14 +33,11 @@ later-than-requires c κs = search needs
 returns-2 : tie.Need-returns-2
 returns-2 c =
     let a = c .before .before .before .before .before .before .args in
-    let f = now (a .file) in
     let p = c .before .before .before .before .cell-number in
     let l = c .before .before .cell-number2 in
     let t = c .before .later-than in
     sym
-    (node-low-bad (a .count) (fileCells (a .count) f) (a .n) (a .i)
-    (p .result) (cell-read (a .count) f (3 * a .i) (p .result) (omega arith) (p .ensures .0))
-    (l .result) (cell-read (a .count) f (3 * a .i + 1) (l .result) (omega arith) (l .ensures .0))
+    (node-low-bad (a .count) (cellNumber (now (a .file))) (a .n) (a .i) (p .result) (p .ensures .0) (l .result) (l .ensures .0)
     (sym (t .ensures) ∙ not-true (t .result) (c .if2 .taken)))
 
 add-cell-number-2 : tie.Need-add-cell-number-2
@@ -61,18 +52,15 @@ later-than-requires-2 c κs = search needs
 returns-3 : tie.Need-returns-3
 returns-3 c =
     let a = c .before .before .before .before .before .before .before .before .args in
-    let f = now (a .file) in
     let p = c .before .before .before .before .before .before .cell-number in
     let l = c .before .before .before .before .cell-number2 in
     let t = c .before .before .before .later-than in
     let h = c .before .cell-number3 in
     c .later-than2 .ensures
     ∙ sym
-    (node-low-good (a .count) (fileCells (a .count) f) (a .n) (a .i)
-    (p .result) (cell-read (a .count) f (3 * a .i) (p .result) (omega arith) (p .ensures .0))
-    (l .result) (cell-read (a .count) f (3 * a .i + 1) (l .result) (omega arith) (l .ensures .0))
+    (node-low-good (a .count) (cellNumber (now (a .file))) (a .n) (a .i) (p .result) (p .ensures .0) (l .result) (l .ensures .0)
     (search needs) (sym (t .ensures) ∙ not-false (t .result) (c .before .before .if2 .left))
-    (h .result) (cell-read (a .count) f (3 * a .i + 2) (h .result) (omega arith) (h .ensures .0)))
+    (h .result) (h .ensures .0))
 
 pub node-good-spec : {M : Type 1} → statement M
 node-good-spec =

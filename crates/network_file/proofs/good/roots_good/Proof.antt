@@ -5,18 +5,15 @@ use borrow.Author.Needs.{needs}
 use mathlib.Core.Path.{_≡_, refl, sym}
 use mathlib.Core.Bool.{true}
 use Prim.Native.Nat.{_≤_, _-_}
-use native.Mathlib.Omega.{arith}
 use denote.Ref.{now}
 use Rattle.lists.specs.Lists.{all, upTo}
-use Rattle.network_file.specs.inner.Cells.{fileCells, fileRoots}
-use Rattle.lent.proofs.Sizes.{roots-size}
 use Rattle.lent.proofs.Tested.{ownRoot, roots-bad, roots-more, roots-good}
-use Rattle.network_file.proofs.Reading.Copied.{roots-long, root-read}
+use Rattle.network_file.specs.File.{fileRoot, cellNumber}
 use Rattle.network_file.proofs.good.roots_good.Statement.{statement}
 use Rattle.network_file.proofs.good.roots_good.Tie as tie
 
 abbrev Inv-loop : tie.InvT-loop
-Inv-loop file count m most j₀ j = (j ≤ m) × (all (ownRoot count (fileCells count file) (fileRoots file)) (upTo j) ≡ true)
+Inv-loop file count m most j₀ j = (j ≤ m) × (all (ownRoot count (cellNumber file) (fileRoot file)) (upTo j) ≡ true)
 
 abbrev μ-loop : tie.MeasureT-loop
 μ-loop file count m most j₀ j = m - j
@@ -35,14 +32,11 @@ file-root-requires c κs = search needs
 
 returns : tie.Need-returns Inv-loop μ-loop
 returns c =
-    let b = c .before .before .before .before .before in
-    let a = b .args in
-    let f = now (a .file) in
+    let a = c .before .before .before .before .before .args in
     let l = c .before .before .before .loop in
     let g = c .before .file-root in
-    sym
-    (roots-bad (a .count) (fileCells (a .count) f) (fileRoots f) (a .m) (omega (arith, roots-long f, roots-size)) (l .j) (g .result)
-    (search needs) (root-read f (l .j) (g .result) (omega (arith, roots-size)) (g .ensures .0)) (search needs))
+    sym (roots-bad (a .count) (cellNumber (now (a .file))) (fileRoot (now (a .file))) (a .m) (l .j) (g .result)
+    (search needs) (g .ensures .0) (search needs))
 
 add-j : tie.Need-add-j Inv-loop μ-loop
 add-j c = search needs
@@ -52,25 +46,19 @@ loop-less c = search needs
 
 loop-again : tie.Need-loop-again Inv-loop μ-loop
 loop-again c =
-    let b = c .before .before .before .before .before in
-    let a = b .args in
-    let f = now (a .file) in
+    let a = c .before .before .before .before .before .args in
     let l = c .before .before .before .loop in
     let g = c .before .file-root in (
       search needs,
-      roots-more (a .count) (fileCells (a .count) f) (fileRoots f) (a .m) (omega (arith, roots-long f, roots-size)) (l .j) (g .result)
-          (root-read f (l .j) (g .result) (omega (arith, roots-size)) (g .ensures .0)) (search needs) (l .inv .1),
+      roots-more (a .count) (cellNumber (now (a .file))) (fileRoot (now (a .file))) (l .j) (g .result) (g .ensures .0) (search needs)
+          (l .inv .1),
     )
 
 returns-2 : tie.Need-returns-2 Inv-loop μ-loop
 returns-2 c =
-    let b = c .before .before .before in
-    let a = b .args in
-    let f = now (a .file) in
+    let a = c .before .before .before .args in
     let l = c .before .loop in
-    sym
-    (roots-good (a .count) (fileCells (a .count) f) (fileRoots f) (a .m) (omega (arith, roots-long f, roots-size)) (l .j) (search needs)
-    (l .inv .1))
+    sym (roots-good (a .count) (cellNumber (now (a .file))) (fileRoot (now (a .file))) (a .m) (l .j) (search needs) (l .inv .1))
 
 pub roots-good-spec : {M : Type 1} → statement M
 roots-good-spec =
