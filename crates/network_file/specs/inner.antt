@@ -1,3 +1,3 @@
-pub mod Cells
 pub mod Reader
 pub mod Writable
+pub mod Checked

@@ -26,7 +26,7 @@ ghost use Rattle.network.specs.Build.{capacity, longEnough};
 ghost use Rattle.network_file.specs.File.{fileCount, fileRoot, cellNumber};
 ghost use Rattle.network_file.specs.Read.{readAnswer, readState, readTable, readOutcome, readValues, readCare, readWork};
 ghost use Rattle.network_file.specs.Read.{readRoots, readCells, Given};
-ghost use Rattle.network_file.specs.inner.Cells.{Readable};
+ghost use Rattle.network_file.specs.inner.Checked.{Readable};
 
 // Whether no buffer is short.
 fn long_enough(values: &[u8], care: &[u8], work: &[u8], roots: &[u16]) -> bool

@@ -22,7 +22,7 @@ ghost use Rattle.table.specs.Answer.{done};
 ghost use Rattle.lent.specs.Lent.{rootsSize};
 ghost use Rattle.network_file.specs.File.{fileCount, networkFileAnswer};
 ghost use Rattle.network_file.specs.Read.{readState};
-ghost use Rattle.network_file.specs.inner.Cells.{checkedAnswer};
+ghost use Rattle.network_file.specs.inner.Checked.{checkedAnswer};
 
 // The state that a file's heading says, with the network.
 pub(crate) fn file_state(file: &[u8]) -> State

@@ -24,7 +24,7 @@ use Rattle.canonical.specs.Canonical.{canonicalAnswer}
 use Rattle.canonical.proofs.Answered.{many-none}
 use Rattle.network_file.specs.File.{fileCount, fileNode, fileDiagram, networkFileAnswer}
 use Rattle.network_file.specs.Read.{readState}
-use Rattle.network_file.specs.inner.Cells.{checkedAnswer}
+use Rattle.network_file.specs.inner.Checked.{checkedAnswer}
 use Rattle.network_file.proofs.Format.AcceptedNetwork.{accepted-network}
 use Rattle.network_file.proofs.Reading.Copied.{outputs-fit, Copied, copied-diagram}
 use Rattle.network_file.proofs.Reading.ReadState.{order-of, network-state}

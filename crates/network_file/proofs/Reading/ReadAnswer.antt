@@ -19,7 +19,7 @@ use Rattle.lent.specs.Lent.{rootsSize}
 use Rattle.network.specs.Build.{capacity, longEnough}
 use Rattle.network_file.specs.File.{fileCount, networkFileAnswer}
 use Rattle.network_file.specs.Read.{readAnswer, clearsChecked}
-use Rattle.network_file.specs.inner.Cells.{checkedAnswer, Readable}
+use Rattle.network_file.specs.inner.Checked.{checkedAnswer, Readable}
 
 -- 10, buffer by buffer
 

@@ -16,7 +16,7 @@ use Rattle.network.specs.Build.{capacity}
 use Rattle.network_file.specs.File.{fileCount, fileRoot, cellNumber}
 use Rattle.network_file.specs.Read.{readAnswer, readState, clearsChecked, readOutcome, readValues, readCare, readWork, readRoots}
 use Rattle.network_file.specs.Read.{readCells, Given}
-use Rattle.network_file.specs.inner.Cells.{Readable}
+use Rattle.network_file.specs.inner.Checked.{Readable}
 use Rattle.network_file.proofs.WorkLeft.{work-left}
 use Rattle.network_file.proofs.Reading.Checked.{shape-of, passed, lent-file}
 use Rattle.network_file.proofs.Reading.Copied.{outputs-fit, copied-over}

@@ -15,7 +15,7 @@ use Rattle.fill.specs.Work.{workSize}
 use Rattle.network_file.specs.File.{networkFileAnswer}
 use Rattle.network_file.specs.Read.{readAnswer, readState, readOutcome, readRoots, readCells}
 use Rattle.network_file.specs.Write.{fileSize, writeAnswer, writtenFile}
-use Rattle.network_file.specs.inner.Cells.{checkedAnswer, Readable}
+use Rattle.network_file.specs.inner.Checked.{checkedAnswer, Readable}
 use Rattle.network_file.proofs.Format.AcceptedNetwork.{AcceptedNetwork, accepted-network}
 use Rattle.network_file.proofs.Reading.Copied.{outputs-fit, Copied, copied-over}
 use Rattle.network_file.proofs.Reading.Checked.{shape-of, copy-checked, passed, checked}

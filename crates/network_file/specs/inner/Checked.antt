@@ -1,4 +1,4 @@
--- The tests of a network file's cells, and a file that passes every test.
+-- A network file's last two tests, and a file that passes all.
 -- Assumes nothing.
 use mathlib.Core.Path.{_≡_}
 use mathlib.Core.Bool.{true}
