@@ -13,7 +13,7 @@ use Rattle.lists.proofs.Lists.Membership.{eqb-equality, all-has, keep-cong, kee
 use Rattle.diagram.specs.Networks.Diagram.{Node, Diagram}
 use Rattle.diagram.specs.Canonical.Structure.{nodeOn, atLevel, targets, spread, standing, range, numbered}
 use Rattle.diagram.proofs.Networks.Reference.{target-reference}
-use Rattle.lent.specs.Lent.{cellsOf, numberIn, lentNode, lentCells, lentDiagram}
+use Rattle.lent.specs.Lent.{cellsBy, numberIn, lentNode, lentCells, lentDiagram}
 use Rattle.lent.proofs.Nodes.{cells-length, cell-at}
 use Rattle.canonical.specs.declared.walk.Numbered.the-variants.{Next, Broken}
 use Rattle.canonical.specs.inner.Walk.{standsAt, lentStanding, lentSpread, isBelow, followed}
@@ -43,7 +43,7 @@ numbered-roots cs rs rs′ (suc d) p next ks =
 
 pub lent-numbered : (count m : ℕ) (cells roots : List ℕ) (d p next : ℕ) (ks : List ℕ)
     → numbered true (lentDiagram count m cells roots) d p next ks ≡ numbered true (lentCells count cells) d p next ks
-unfolding lentDiagram cellsOf
+unfolding lentDiagram cellsBy
 lent-numbered count m cells roots d p next ks =
     numbered-roots (lentCells count cells .nodes) (lentDiagram count m cells roots .roots) [] d p next ks
 

@@ -22,7 +22,7 @@ use Rattle.table.specs.declared.Stage.the-variants.{Nothing, Table as AtTable, 
 use Rattle.table.specs.declared.State.{State}
 use Rattle.table.specs.State.{orderOf, stageOf, isNothing, isNetwork}
 use Rattle.table.proofs.Held.{few-inputs, few-outputs, ordered}
-use Rattle.lent.specs.Lent.{cellsOf, lentCells, lentDiagram, rootsSize}
+use Rattle.lent.specs.Lent.{cellsBy, lentCells, lentDiagram, rootsSize}
 use Rattle.lent.specs.inner.Cells.{Followable, Rooted, outputAt}
 use Rattle.lent.specs.Evaluate.{goodCells, rowOutputs, evaluateAnswer}
 
@@ -42,7 +42,7 @@ gives-roots cs rs rs′ a (suc k) r =
 -- the outputs of the lent diagram are those of its cells
 pub outputs-row : (s : State) (row : ℕ) (roots cells : List ℕ)
     → packed (s .m) (outputAt (s .n) (s .count) (s .order) cells row roots) ≡ rowOutputs s row roots cells
-unfolding rowOutputs outputAt lentDiagram cellsOf
+unfolding rowOutputs outputAt lentDiagram cellsBy
 outputs-row s row roots cells =
     ap (packed (s .m))
     (λ i j. gives-roots (lentCells (s .count) cells .nodes) [] (take (s .m) roots) (rowUnder (s .n) (orderOf s) row) (s .n)
@@ -92,7 +92,7 @@ module _ (s : State) (roots cells : List ℕ) (long : mostOutputs ≤ length roo
 
   module _ (good : goodCells s roots cells ≡ true) where
     pub followable : Followable (s .n) (s .count) (s .order) cells
-    unfolding lentDiagram cellsOf
+    unfolding lentDiagram cellsBy
     followable =
         record {
           levelled =
@@ -105,7 +105,7 @@ module _ (s : State) (roots cells : List ℕ) (long : mostOutputs ≤ length roo
         }
 
     pub rooted : Rooted (s .m) (s .count) roots cells
-    unfolding lentDiagram cellsOf
+    unfolding lentDiagram cellsBy
     rooted = record {
       few = few-outputs s table;
       fit = roots-fit;

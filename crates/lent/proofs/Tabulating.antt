@@ -26,7 +26,7 @@ use Rattle.table.specs.Answer.{done}
 use Rattle.table.specs.State.{orderOf, stageOf, isNetwork}
 use Rattle.table.specs.Stream.{planeByte}
 use Rattle.table.specs.Calls.{planeSize}
-use Rattle.lent.specs.Lent.{cellsOf, lentCells, lentDiagram, rootsSize}
+use Rattle.lent.specs.Lent.{cellsBy, lentCells, lentDiagram, rootsSize}
 use Rattle.lent.specs.Evaluate.{goodCells}
 use Rattle.lent.specs.Tabulate.{tabulateAnswer, lentTable, tabulateValues, tabulateCare}
 use Rattle.lent.specs.inner.Tabulate.{tableBit, onesByte}
@@ -47,7 +47,7 @@ module _ (s : State) (roots cells : List ℕ) (x : ℕ) where
     pub bit-followed : (row root : ℕ) → row ≡ x % 2 ^ s .n → root ≡ getD roots (x / 2 ^ s .n) 0
         → (b : Bool) → b ≡ gives true (lentCells (s .count) cells) (rowUnder (s .n) (orderOf s) row) (s .n) root
         → b ≡ tableBit (λ v. v .value) (lentTable s roots cells) x
-    unfolding tableBit lentDiagram cellsOf
+    unfolding tableBit lentDiagram cellsBy
     bit-followed row root er eo b e =
         rw (lt-ltb x (s .m * 2 ^ s .n) h, getD-take (s .m) roots (x / 2 ^ s .n) 0 output-of, ← er, ← eo)
         (e ∙ gives-roots (lentCells (s .count) cells .nodes) [] (take (s .m) roots) (rowUnder (s .n) (orderOf s) row) (s .n) root)

@@ -14,43 +14,43 @@ use Rattle.lists.proofs.Lists.Membership.{all-mapped}
 use Rattle.lists.proofs.Numbers.Compared.{all-upTo-fails, all-upTo-more}
 use Rattle.lists.proofs.Numbers.UpTo.{length-map-upTo}
 use Rattle.diagram.specs.Networks.Diagram.{later, refers, nodeAt, nodeGood, wellFormed}
-use Rattle.lent.specs.Lent.{nodeOf, diagramOf, cellsOf}
+use Rattle.lent.specs.Lent.{nodeBy, diagramBy, cellsBy}
 use Rattle.lent.proofs.Nodes.{cells-length, cell-at, all-nodes}
 
 -- cell i, from 0, and root j, by their tests
 
 abbrev pub goodNode : ℕ → (ℕ → ℕ) → ℕ → ℕ → Bool
-goodNode count number n i = nodeGood true n (cellsOf count number) (nodeOf number i)
+goodNode count number n i = nodeGood true n (cellsBy count number) (nodeBy number i)
 
 abbrev pub ownRoot : ℕ → (ℕ → ℕ) → (ℕ → ℕ) → ℕ → Bool
-ownRoot count number root j = refers true (cellsOf count number) (root j)
+ownRoot count number root j = refers true (cellsBy count number) (root j)
 
 module _ (count : ℕ) (number : ℕ → ℕ) where
   -- a reference
 
-  pub refers-own : (r : ℕ) → r ≤ count + count + 1 → refers true (cellsOf count number) r ≡ true
+  pub refers-own : (r : ℕ) → r ≤ count + count + 1 → refers true (cellsBy count number) r ≡ true
   refers-own r h = rw (cells-length count number) (le-leb r (2 * count + 1) (omega arith))
 
-  pub refers-past : (r : ℕ) → count + count + 1 < r → refers true (cellsOf count number) r ≡ false
+  pub refers-past : (r : ℕ) → count + count + 1 < r → refers true (cellsBy count number) r ≡ false
   refers-past r h = rw (cells-length count number) (lt-leb r (2 * count + 1) (omega arith))
 
-  pub refers-below : (r : ℕ) → T (refers true (cellsOf count number) r) → r ≤ count + count + 1
+  pub refers-below : (r : ℕ) → T (refers true (cellsBy count number) r) → r ≤ count + count + 1
   refers-below r t = omega (arith, leb→le r _ t, cells-length count number)
 
   -- the cell behind a reference
-  pub node-behind : (r : ℕ) → 2 ≤ r → r ≤ count + count + 1 → nodeAt true (cellsOf count number) r ≡ nodeOf number (r / 2 - 1)
+  pub node-behind : (r : ℕ) → 2 ≤ r → r ≤ count + count + 1 → nodeAt true (cellsBy count number) r ≡ nodeBy number (r / 2 - 1)
   node-behind r h k = cell-at count number (r / 2 - 1) (record { level = 0; low = 0; high = 0 }) (omega arith)
 
   -- an edge
 
   module _ (p r : ℕ) where
-    pub later-constant : r < 2 → later true (cellsOf count number) p r ≡ true
+    pub later-constant : r < 2 → later true (cellsBy count number) p r ≡ true
     later-constant h = rw (lt-ltb r 2 h)
 
-    pub later-past : 2 ≤ r → count + count + 1 < r → later true (cellsOf count number) p r ≡ false
+    pub later-past : 2 ≤ r → count + count + 1 < r → later true (cellsBy count number) p r ≡ false
     later-past h k = rw (le-ltb r 2 h, refers-past r k)
 
-    pub later-own : 2 ≤ r → r ≤ count + count + 1 → later true (cellsOf count number) p r ≡ ltb p (number (3 * (r / 2 - 1)))
+    pub later-own : 2 ≤ r → r ≤ count + count + 1 → later true (cellsBy count number) p r ≡ ltb p (number (3 * (r / 2 - 1)))
     later-own h k = rw (le-ltb r 2 h, refers-own r k, node-behind r h k)
 
   -- cell i, of whose numbers p, l and h are the level and the edges
@@ -60,23 +60,23 @@ module _ (count : ℕ) (number : ℕ → ℕ) where
     node-deep h = rw (le-ltb (number (3 * i)) n (omega arith))
 
     module _ (l : ℕ) (low : l ≡ number (3 * i + 1)) where
-      pub node-low-bad : later true (cellsOf count number) p l ≡ false → goodNode count number n i ≡ false
+      pub node-low-bad : later true (cellsBy count number) p l ≡ false → goodNode count number n i ≡ false
       node-low-bad e = rw (← level, ← low, e) (and-false (ltb p n))
 
-      pub node-low-good : p < n → later true (cellsOf count number) p l ≡ true → (h : ℕ) → h ≡ number (3 * i + 2)
-          → goodNode count number n i ≡ later true (cellsOf count number) p h
+      pub node-low-good : p < n → later true (cellsBy count number) p l ≡ true → (h : ℕ) → h ≡ number (3 * i + 2)
+          → goodNode count number n i ≡ later true (cellsBy count number) p h
       node-low-good b e h high = rw (← level, ← low, ← high, lt-ltb p n b, e)
 
   -- all cells, where those below i are good
 
   pub nodes-bad : (n i : ℕ) → i < count → goodNode count number n i ≡ false
-      → all (nodeGood true n (cellsOf count number)) (cellsOf count number .nodes) ≡ false
-  nodes-bad n i h e = all-nodes count number (nodeGood true n (cellsOf count number)) ∙ all-upTo-fails (goodNode count number n) count i h e
+      → all (nodeGood true n (cellsBy count number)) (cellsBy count number .nodes) ≡ false
+  nodes-bad n i h e = all-nodes count number (nodeGood true n (cellsBy count number)) ∙ all-upTo-fails (goodNode count number n) count i h e
 
   pub nodes-good : (n i : ℕ) → i ≡ count → all (goodNode count number n) (upTo i) ≡ true
-      → all (nodeGood true n (cellsOf count number)) (cellsOf count number .nodes) ≡ true
+      → all (nodeGood true n (cellsBy count number)) (cellsBy count number .nodes) ≡ true
   nodes-good n i h e =
-      all-nodes count number (nodeGood true n (cellsOf count number)) ∙ ap (λ (k : ℕ). all (goodNode count number n) (upTo k)) (sym h) ∙ e
+      all-nodes count number (nodeGood true n (cellsBy count number)) ∙ ap (λ (k : ℕ). all (goodNode count number n) (upTo k)) (sym h) ∙ e
 
   -- the first m roots, where those below j are the diagram's own
 
@@ -95,17 +95,17 @@ module _ (count : ℕ) (number : ℕ → ℕ) where
 
       -- both tests make the one of a well-formed diagram
 
-      pub both-tests : (n : ℕ) → wellFormed true n m (diagramOf count m number root)
-          ≡ all (ownRoot count number root) (upTo m) && all (nodeGood true n (cellsOf count number)) (cellsOf count number .nodes)
-      unfolding wellFormed cellsOf
+      pub both-tests : (n : ℕ) → wellFormed true n m (diagramBy count m number root)
+          ≡ all (ownRoot count number root) (upTo m) && all (nodeGood true n (cellsBy count number)) (cellsBy count number .nodes)
+      unfolding wellFormed cellsBy
       both-tests n =
-          rw (eq-eqb (length (map root (upTo m))) m (length-map-upTo root m), all-mapped (refers true (cellsOf count number)) root (upTo m))
+          rw (eq-eqb (length (map root (upTo m))) m (length-map-upTo root m), all-mapped (refers true (cellsBy count number)) root (upTo m))
 
       pub formed-not : (n : ℕ) → all (ownRoot count number root) (upTo m) ≡ false
-          → wellFormed true n m (diagramOf count m number root) ≡ false
+          → wellFormed true n m (diagramBy count m number root) ≡ false
       formed-not n e = both-tests n ∙ rw e
 
       pub formed-rest : (n : ℕ) → all (ownRoot count number root) (upTo m) ≡ true
-          → wellFormed true n m (diagramOf count m number root)
-          ≡ all (nodeGood true n (cellsOf count number)) (cellsOf count number .nodes)
+          → wellFormed true n m (diagramBy count m number root)
+          ≡ all (nodeGood true n (cellsBy count number)) (cellsBy count number .nodes)
       formed-rest n e = both-tests n ∙ rw e

@@ -8,16 +8,16 @@ use Rattle.diagram.specs.Networks.Bound.{mostOutputs}
 use Rattle.diagram.specs.Networks.Diagram.{Node, Diagram}
 
 -- 'cells of three 16-bit numbers', whatever holds the numbers: cell i, from 0
-abbrev pub nodeOf : (ℕ → ℕ) → ℕ → Node
-nodeOf number i = record { level = number (3 * i); low = number (3 * i + 1); high = number (3 * i + 2) }
+abbrev pub nodeBy : (ℕ → ℕ) → ℕ → Node
+nodeBy number i = record { level = number (3 * i); low = number (3 * i + 1); high = number (3 * i + 2) }
 
 -- the counted cells and the first m roots, by their numbers
-abbrev pub diagramOf : ℕ → ℕ → (ℕ → ℕ) → (ℕ → ℕ) → Diagram
-diagramOf count m number root = record { nodes = map (nodeOf number) (upTo count); roots = map root (upTo m) }
+abbrev pub diagramBy : ℕ → ℕ → (ℕ → ℕ) → (ℕ → ℕ) → Diagram
+diagramBy count m number root = record { nodes = map (nodeBy number) (upTo count); roots = map root (upTo m) }
 
 -- a test of a cell, and what a row gives at a reference, look at the nodes alone
-unfoldable pub cellsOf : ℕ → (ℕ → ℕ) → Diagram
-cellsOf count number = record { nodes = map (nodeOf number) (upTo count); roots = [] }
+unfoldable pub cellsBy : ℕ → (ℕ → ℕ) → Diagram
+cellsBy count number = record { nodes = map (nodeBy number) (upTo count); roots = [] }
 
 -- number x of a lent list, and the cells whose numbers one has
 
@@ -25,10 +25,10 @@ abbrev pub numberIn : List ℕ → ℕ → ℕ
 numberIn numbers x = getD numbers x 0
 
 abbrev pub lentNode : List ℕ → ℕ → Node
-lentNode cells i = nodeOf (numberIn cells) i
+lentNode cells i = nodeBy (numberIn cells) i
 
 abbrev pub lentCells : ℕ → List ℕ → Diagram
-lentCells count cells = cellsOf count (numberIn cells)
+lentCells count cells = cellsBy count (numberIn cells)
 
 -- the counted cells and the first m roots, where so many are lent
 unfoldable pub lentDiagram : ℕ → ℕ → List ℕ → List ℕ → Diagram

@@ -12,7 +12,7 @@ use Rattle.table.specs.declared.Answer.{Answer}
 use Rattle.table.specs.declared.Answer.the-variants.{Done, BadLength, BadCheck, BadKind, BadContent}
 use Rattle.table.specs.Answer.{unless, unlessRefused, firstRefusal}
 use Rattle.table.specs.File.{fileInputs, fileOutputs, shapeAnswer}
-use Rattle.lent.specs.Lent.{nodeOf, diagramOf}
+use Rattle.lent.specs.Lent.{nodeBy, diagramBy}
 
 -- the cells of a block, and its numbers
 abbrev pub blockCells : ℕ
@@ -43,11 +43,11 @@ abbrev pub cellNumber : List ℕ → ℕ → ℕ
 cellNumber file x = contentNumber file (suc (x / blockNumbers)) (x % blockNumbers)
 
 abbrev pub fileNode : List ℕ → ℕ → Node
-fileNode file i = nodeOf (cellNumber file) i
+fileNode file i = nodeBy (cellNumber file) i
 
 -- the counted cells and the first m roots
 unfoldable pub fileDiagram : List ℕ → Diagram
-fileDiagram file = diagramOf (fileCount file) (fileOutputs file) (cellNumber file) (fileRoot file)
+fileDiagram file = diagramBy (fileCount file) (fileOutputs file) (cellNumber file) (fileRoot file)
 
 -- the blocks that so many cells take
 unfoldable pub cellBlocks : ℕ → ℕ

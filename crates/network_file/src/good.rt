@@ -9,13 +9,13 @@ ghost use Rattle.diagram.specs.Networks.Bound.{mostOutputs};
 ghost use Rattle.diagram.specs.Networks.Diagram.{later, refers, nodeGood, wellFormed};
 ghost use Rattle.block.specs.Numbers.{numberLimit};
 ghost use Rattle.table.specs.File.{fileOutputs};
-ghost use Rattle.lent.specs.Lent.{cellsOf};
+ghost use Rattle.lent.specs.Lent.{cellsBy};
 ghost use Rattle.network_file.specs.File.{fileCount, fileRoot, cellNumber, fileNode, fileDiagram};
 
 // Whether a reference is a constant, or to a counted cell at a level after p.
 fn later_than(file: &[u8], count: usize, p: usize, r: usize) -> bool
     requires { ⌜ count < numberLimit ⌝ }
-    ensures { λ x. ⌜ x ≡ later true (cellsOf count (cellNumber (now (file .entry)))) p r ⌝ }
+    ensures { λ x. ⌜ x ≡ later true (cellsBy count (cellNumber (now (file .entry)))) p r ⌝ }
 {
     if r < 2 {
         return true;
@@ -29,7 +29,7 @@ fn later_than(file: &[u8], count: usize, p: usize, r: usize) -> bool
 // Whether cell i, from 0, has a level below n and edges only to later levels or constants.
 fn node_good(file: &[u8], count: usize, n: usize, i: usize) -> bool
     requires { ⌜ (count < numberLimit) × (i < count) ⌝ }
-    ensures { λ x. ⌜ x ≡ nodeGood true n (cellsOf count (cellNumber (now (file .entry)))) (fileNode (now (file .entry)) i) ⌝ }
+    ensures { λ x. ⌜ x ≡ nodeGood true n (cellsBy count (cellNumber (now (file .entry)))) (fileNode (now (file .entry)) i) ⌝ }
 {
     let first = 3 * i;
     let p = cell_number(file, first);
@@ -46,8 +46,8 @@ fn node_good(file: &[u8], count: usize, n: usize, i: usize) -> bool
 fn nodes_good(file: &[u8], count: usize, n: usize) -> bool
     requires { ⌜ count < numberLimit ⌝ }
     ensures { λ x.
-        ⌜ x ≡ all (nodeGood true n (cellsOf count (cellNumber (now (file .entry)))))
-        (cellsOf count (cellNumber (now (file .entry))) .nodes) ⌝ }
+        ⌜ x ≡ all (nodeGood true n (cellsBy count (cellNumber (now (file .entry)))))
+        (cellsBy count (cellNumber (now (file .entry))) .nodes) ⌝ }
 {
     let mut i: usize = 0;
     while i < count {
@@ -63,7 +63,7 @@ fn nodes_good(file: &[u8], count: usize, n: usize) -> bool
 fn roots_good(file: &[u8], count: usize, m: usize) -> bool
     requires { ⌜ (count < numberLimit) × (m ≤ mostOutputs) ⌝ }
     ensures { λ x.
-        ⌜ x ≡ all (λ j. refers true (cellsOf count (cellNumber (now (file .entry)))) (fileRoot (now (file .entry)) j)) (upTo m) ⌝ }
+        ⌜ x ≡ all (λ j. refers true (cellsBy count (cellNumber (now (file .entry)))) (fileRoot (now (file .entry)) j)) (upTo m) ⌝ }
 {
     let most = count + count + 1;
     let mut j: usize = 0;

@@ -22,11 +22,11 @@ use Rattle.text.specs.Text.{line}
 use Rattle.printed.specs.Input.{inputAnswer}
 
 -- 'A refusal prints one line, as `refused 7`'
-abbrev pub refused-word : List ℕ
-refused-word = 114 ∷ 101 ∷ 102 ∷ 117 ∷ 115 ∷ 101 ∷ 100 ∷ []
+abbrev pub refused-keyword : List ℕ
+refused-keyword = 114 ∷ 101 ∷ 102 ∷ 117 ∷ 115 ∷ 101 ∷ 100 ∷ []
 
 unfoldable pub refusedLine : Answer → List ℕ
-refusedLine a = line refused-word (number a)
+refusedLine a = line refused-keyword (number a)
 
 -- the two planes that an accepted file loads into lent ones; into none, the bytes that a call uses
 abbrev pub valuesPlane : List ℕ → List ℕ → List ℕ

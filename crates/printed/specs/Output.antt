@@ -8,7 +8,7 @@ use Rattle.table.specs.Answer.{done}
 use Rattle.table.specs.Stream.{caredBits}
 use Rattle.table.specs.File.{fileInputs, fileOutputs, fileOrder}
 use Rattle.lent.specs.Lent.{numbersOf}
-use Rattle.text.specs.Text.{inputs-word, outputs-word, line, orderLine, totalLines, networkLines}
+use Rattle.text.specs.Text.{inputs-keyword, outputs-keyword, line, orderLine, totalLines, networkLines}
 use Rattle.printed.specs.Input.{inputAnswer}
 use Rattle.printed.specs.Built.{refusedLine, carePlane, fileNetwork}
 
@@ -23,7 +23,7 @@ fileCared file = caredBits (fileInputs file) (fileOutputs file) (carePlane file 
 -- 'Output, whole': the inputs, the outputs, the order, the cared bits and the cells, then a line a cell and a line a root
 unfoldable pub fileText : List ℕ → List ℕ
 fileText file =
-    line inputs-word (fileInputs file) ++ (line outputs-word (fileOutputs file) ++ (orderLine (fileInputs file) (fileOrder file)
+    line inputs-keyword (fileInputs file) ++ (line outputs-keyword (fileOutputs file) ++ (orderLine (fileInputs file) (fileOrder file)
     ++ (totalLines (fileCared file) (length (fileNetwork file .nodes))
     ++ networkLines (length (fileNetwork file .nodes)) (fileOutputs file) (fileNetwork file .roots) (numbersOf (fileNetwork file .nodes)))))
 

@@ -1,6 +1,6 @@
 -- Every claim that holds is shown of the calls; so are the starred ones.
 -- Assumes nothing.
-use mathlib.Core.Path.{_≡_, refl, sym, ap, ap₂, _∙_, subst}
+use mathlib.Core.Path.{_≡_, sym, ap, ap₂, _∙_, subst}
 use mathlib.Core.Bool.{Bool, true, false, cond, Bool·beq, _&&_}
 use mathlib.Core.List.{List, [], map, _++_}
 use Prim.Native.Nat.{ℕ, _*_, _<_, _^_}
@@ -14,12 +14,12 @@ use Rattle.lists.proofs.Bools.{and-l, and-r, beq→eq}
 use Rattle.lists.proofs.Lists.Membership.{all-at}
 use Rattle.lists.proofs.Numbers.UpTo.{getD-map-upTo}
 use Rattle.diagram.specs.Networks.Diagram.{Node, Diagram, sameNode}
-use Rattle.diagram.specs.Networks.Network.{network, count}
 use Rattle.diagram.specs.Table.{Table, filledBit, networkOf, cost}
 use Rattle.diagram.specs.Orders.Sift.{sift}
 use Rattle.diagram.specs.Starred.{Claim, builds, costs, sifts, fits, holds, filledRows, starred}
 use Rattle.diagram.proofs.Networks.Same.{nodes-equality}
 use Rattle.diagram.proofs.Starred.{starred-hold}
+use Rattle.diagram.proofs.Networks.Count.{cost-nodes}
 use Rattle.table.specs.declared.Answer.the-variants.{Done, TooSmall}
 use Rattle.lent.specs.Lent.{numbersOf, rootsSize}
 use Rattle.network.specs.Build.{capacity, heldNetwork, wanted}
@@ -35,11 +35,6 @@ listed t order rows e j r p q =
     ∙ ap (λ (xs : List Bool). getD xs r false) (getD-map-upTo (λ k. map (filledBit true t order k) (upTo (2 ^ t .n))) (t .m) j [] p)
     ∙ getD-map-upTo (filledBit true t order j) (2 ^ t .n) r false q)
 
--- an order's cost is the length of its network's list
-cost-length : (t : Table) (order : List ℕ) → cost t order ≡ length (networkOf true t order .nodes)
-unfolding cost networkOf network count
-cost-length t order = refl
-
 module _ (t : Table) (order : List ℕ) (rows : List (List Bool)) (nodes : List Node) (refs : List ℕ) where
   shown-builds : T (holds (builds t order rows nodes refs)) → Shown (builds t order rows nodes refs)
   unfolding holds Shown wanted heldNetwork
@@ -52,7 +47,7 @@ module _ (t : Table) (order : List ℕ) (rows : List (List Bool)) (nodes : List 
       let ns : heldNetwork s values care .nodes ≡ nodes = ap (λ (D : Diagram). D .nodes) (held-network h) ∙ q in
       let rs : heldNetwork s values care .roots ≡ refs =
       ap (λ (D : Diagram). D .roots) (held-network h) ∙ numbers-equality .sound (networkOf true t order .roots) refs (and-r b c y) in
-      let k : wanted s values care ≡ length nodes = held-cost h ∙ cost-length t order ∙ ap length q in
+      let k : wanted s values care ≡ length nodes = held-cost h ∙ cost-nodes t order ∙ ap length q in
       let fit : leb (wanted s values care) (capacity cells) ≡ true = rw k (le-leb (length nodes) (capacity cells) room) in
       record {
         answer = built-answer s values care work roots cells long (h .staged) true fit ∙ ap Done k;

@@ -34,7 +34,7 @@ use Rattle.fill.specs.Work.{workSize, linksAt, allLinks}
 use Rattle.fill.specs.Counts.{differingPairs}
 use Rattle.fill.proofs.Buffers.Sizes.{work-size, links-at}
 use Rattle.fill.proofs.Counting.LinkPairs.{Links}
-use Rattle.lent.specs.Lent.{cellsOf, numberIn, lentDiagram}
+use Rattle.lent.specs.Lent.{cellsBy, numberIn, lentDiagram}
 use Rattle.lent.proofs.Nodes.{cells-length}
 use Rattle.lent.proofs.Tested.{node-behind}
 use Rattle.network.specs.Levels.{levelAt}
@@ -84,7 +84,7 @@ module _ (s : State) (p : ℕ) (work roots cells : List ℕ) (P : Passed s p wor
       (exchanged-levels (s .n) p (orderOf s) (ordered s (P .tested .held)) (P .place))
 
   own : (r : ℕ) → 2 ≤ r → r ≤ largest true (length (D .nodes)) → lentAt cells r ≡ nodeAt true D r
-  unfolding lentDiagram cellsOf
+  unfolding lentDiagram cellsBy
   own r h k = sym (node-behind (s .count) (numberIn cells) r h (omega (arith, cells-length (s .count) (numberIn cells))))
 
   held-trace : kss t other ≡ exchangedTrace (lentAt cells) p (s .n) rootPairs

@@ -16,6 +16,7 @@ use Rattle.diagram.specs.Networks.Diagram.{Diagram}
 use Rattle.diagram.specs.Table.{Table, cost, Computes}
 use Rattle.diagram.specs.Demands.{Least, NoneFits}
 use Rattle.diagram.proofs.Demands.{whole, right, least-cost, fits}
+use Rattle.diagram.proofs.Networks.Count.{cost-nodes}
 use Rattle.table.specs.declared.Answer.{Answer}
 use Rattle.table.specs.declared.Answer.the-variants.{Done, TooSmall}
 use Rattle.table.specs.declared.Outcome.{Outcome}
@@ -27,7 +28,6 @@ use Rattle.swapping.specs.Swap.{cellTable, exchangedOrder, swappedNetwor
 use Rattle.swapping.specs.Swap.{swapCellsOutcome, swapCellsRoots, swapCellsCells, Swapped}
 use Rattle.network.proofs.LinksRead.LevelsRead.{numbers-length}
 use Rattle.network.proofs.Building.LentNetwork.{lent-network, roots-length}
-use Rattle.network.proofs.LinksRead.TraceRead.{cost-nodes}
 use Rattle.swapping.proofs.Checks.{Passed, passed, refused}
 use Rattle.swapping.proofs.HeldLinks.{few′, exchanges}
 

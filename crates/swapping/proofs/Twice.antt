@@ -22,6 +22,7 @@ use Rattle.diagram.proofs.Networks.Evaluate.{formed-length}
 use Rattle.diagram.proofs.Demands.{filled-length, right}
 use Rattle.diagram.proofs.Canonical.NetworkIff.{network-canonical}
 use Rattle.diagram.proofs.Networks.SameTable.{exchanged-back}
+use Rattle.diagram.proofs.Networks.Count.{cost-nodes}
 use Rattle.table.specs.declared.Answer.{Answer}
 use Rattle.table.specs.declared.Answer.the-variants.{Done, TooSmall}
 use Rattle.table.specs.declared.State.{State}
@@ -37,7 +38,6 @@ use Rattle.swapping.specs.Swap.{heldDiagram, cellTable, exchangedOrder, 
 use Rattle.swapping.specs.Swap.{swapCellsOutcome, swapCellsRoots, swapCellsCells}
 use Rattle.network.specs.Build.{capacity, networkState}
 use Rattle.network.proofs.Building.LentNetwork.{stored-length, lent-network}
-use Rattle.network.proofs.LinksRead.TraceRead.{cost-nodes}
 use Rattle.swapping.proofs.Checks.{Passed, passed}
 use Rattle.swapping.proofs.HeldLinks.{exchanges}
 use Rattle.swapping.proofs.Kept.{reached, has-room, count-nodes, left-network}

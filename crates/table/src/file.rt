@@ -19,7 +19,7 @@ ghost use Rattle.block.specs.Block.{contentBits, goodNumber};
 ghost use Rattle.table.specs.declared.Answer.the-variants.{BadKind};
 ghost use Rattle.table.specs.Answer.{unless};
 ghost use Rattle.table.specs.File.{fieldsAnswer, blocksAnswer, streamsAnswer, fileAnswer};
-ghost use Rattle.table.specs.inner.Reader.{carriedAnswer, kindAnswer, readAnswer};
+ghost use Rattle.table.specs.inner.Reader.{carriedAnswer, kindAnswer, readBlockAnswer};
 ghost use Rattle.table.specs.Sizes.{mostBits, mostBlocks};
 
 // The blocks that a stream of so many bits takes.
@@ -107,7 +107,7 @@ fn care_answer(file: &[u8], bits: usize, blocks: usize, k: usize) -> Answer
 // The block reader: the check (2), then the kind decides how block k is read, where a stream of `bits` bits takes `blocks` blocks.
 fn block_answer(file: &[u8], bits: usize, blocks: usize, k: usize) -> Answer
     requires { ⌜ (k ≤ 2 * blocks) × (blocks ≤ mostBlocks) ⌝ }
-    ensures { λ r. ⌜ r ≡ readAnswer bits blocks (now (file .entry)) k ⌝ }
+    ensures { λ r. ⌜ r ≡ readBlockAnswer bits blocks (now (file .entry)) k ⌝ }
 {
     if !good_check(file, k) {
         return Answer::BadCheck;

@@ -8,7 +8,7 @@ use lib.ListN.{length, getD}
 use Rattle.diagram.specs.Networks.Bound.{mostVariables}
 use Rattle.table.specs.declared.State.{State}
 use Rattle.table.specs.State.{stageOf, isNetwork}
-use Rattle.text.specs.Text.{inputs-word, outputs-word, order-word, cared-word, cells-word, cell-word, root-word, newline, spaced, inTurn, line, orderLine, nodeText, cellLine, rootLine, networkLines, heldLines, stateOrder, totalLines, headingLines, networkText}
+use Rattle.text.specs.Text.{inputs-keyword, outputs-keyword, order-keyword, cared-keyword, cells-keyword, cell-keyword, root-keyword, newline, spaced, inTurn, line, orderLine, nodeText, cellLine, rootLine, networkLines, heldLines, stateOrder, totalLines, headingLines, networkText}
 use Rattle.text.specs.Written.{Written}
 use Rattle.text.proofs.Writing.{written-then, written-as, written-nothing}
 
@@ -28,18 +28,18 @@ unfolding nodeText
 written-node cells p a b c f g h u v w e =
     written-then (spaced-as f u) (written-then (spaced-as g v) (written-then (spaced-as h w) e))
 
-pub written-cell : {l m n o : List ℕ} {i j k q : ℕ} (cells : List ℕ) (p : ℕ) → Written l m i j cell-word
+pub written-cell : {l m n o : List ℕ} {i j k q : ℕ} (cells : List ℕ) (p : ℕ) → Written l m i j cell-keyword
     → Written m n j k (spaced (p + 1)) → Written n o k q (nodeText cells p) → Written l o i q (cellLine cells p)
 unfolding cellLine
 written-cell cells p u v w = written-then u (written-then v w)
 
 pub written-root : {l m n o z : List ℕ} {i j k q t : ℕ} (roots : List ℕ) (p a : ℕ) → a ≡ getD roots p 0
-    → Written l m i j root-word → Written m n j k (spaced p) → Written n o k q (spaced a) → Written o z q t newline
+    → Written l m i j root-keyword → Written m n j k (spaced p) → Written n o k q (spaced a) → Written o z q t newline
     → Written l z i t (rootLine roots p)
 unfolding rootLine
 written-root roots p a f u v w e = written-then u (written-then v (written-then (spaced-as f w) e))
 
-pub written-order : {l m n o : List ℕ} {i j k q : ℕ} (s : State) (a : ℕ) → a ≡ min (s .n) mostVariables → Written l m i j order-word
+pub written-order : {l m n o : List ℕ} {i j k q : ℕ} (s : State) (a : ℕ) → a ≡ min (s .n) mostVariables → Written l m i j order-keyword
     → Written m n j k (inTurn (λ p. spaced (getD (s .order) p 0)) a) → Written n o k q newline → Written l o i q (stateOrder s)
 unfolding stateOrder orderLine
 written-order s a e u v w =
@@ -56,13 +56,13 @@ pub written-held : {l m n : List ℕ} {i j k : ℕ} (s : State) (roots cells : L
 unfolding heldLines networkLines
 written-held s roots cells b p e u v = rw (sym p ∙ e) (written-then u v)
 
-pub written-totals : {l m n : List ℕ} {i j k : ℕ} (cared count : ℕ) → Written l m i j (line cared-word cared)
-    → Written m n j k (line cells-word count) → Written l n i k (totalLines cared count)
+pub written-totals : {l m n : List ℕ} {i j k : ℕ} (cared count : ℕ) → Written l m i j (line cared-keyword cared)
+    → Written m n j k (line cells-keyword count) → Written l n i k (totalLines cared count)
 unfolding totalLines
 written-totals cared count u v = written-then u v
 
-pub written-heading : {l m n o z : List ℕ} {i j k q t : ℕ} (s : State) (cared : ℕ) → Written l m i j (line inputs-word (s .n))
-    → Written m n j k (line outputs-word (s .m)) → Written n o k q (stateOrder s) → Written o z q t (totalLines cared (s .count))
+pub written-heading : {l m n o z : List ℕ} {i j k q t : ℕ} (s : State) (cared : ℕ) → Written l m i j (line inputs-keyword (s .n))
+    → Written m n j k (line outputs-keyword (s .m)) → Written n o k q (stateOrder s) → Written o z q t (totalLines cared (s .count))
     → Written l z i t (headingLines s cared)
 unfolding headingLines
 written-heading s cared u v w e = written-then u (written-then v (written-then w e))

@@ -63,9 +63,9 @@ pub written-length : {l m : List ℕ} {i j : ℕ} {xs : List ℕ} → Written l 
 written-length {l} {m} {i} {j} {xs} w = ap length (w .content) ∙ length-sets l i xs
 
 -- a word, one byte more, and the whole word
-pub written-word : {l m n : List ℕ} {i j k : ℕ} (w : List ℕ) (p : ℕ) → p < length w → Written l m i j (take p w)
+pub written-keyword : {l m n : List ℕ} {i j k : ℕ} (w : List ℕ) (p : ℕ) → p < length w → Written l m i j (take p w)
     → Written m n j k (getD w p 0 ∷ []) → Written l n i k (take (p + 1) w)
-written-word w p h u v =
+written-keyword w p h u v =
     written-as (sym (take-suc w p 0 h) ∙ ap (λ (q : ℕ). take q w) (sym (add-one p))) (written-then u v)
 
 pub written-whole : {l m : List ℕ} {i j : ℕ} (w : List ℕ) (p : ℕ) → p ≤ length w → length w ≤ p → Written l m i j (take p w)

@@ -10,26 +10,26 @@ use Rattle.table.specs.declared.State.{State}
 use Rattle.table.specs.State.{stageOf, isNetwork}
 
 -- the words, in the bytes of their letters
-abbrev pub inputs-word : List ℕ
-inputs-word = 105 ∷ 110 ∷ 112 ∷ 117 ∷ 116 ∷ 115 ∷ []
+abbrev pub inputs-keyword : List ℕ
+inputs-keyword = 105 ∷ 110 ∷ 112 ∷ 117 ∷ 116 ∷ 115 ∷ []
 
-abbrev pub outputs-word : List ℕ
-outputs-word = 111 ∷ 117 ∷ 116 ∷ 112 ∷ 117 ∷ 116 ∷ 115 ∷ []
+abbrev pub outputs-keyword : List ℕ
+outputs-keyword = 111 ∷ 117 ∷ 116 ∷ 112 ∷ 117 ∷ 116 ∷ 115 ∷ []
 
-abbrev pub order-word : List ℕ
-order-word = 111 ∷ 114 ∷ 100 ∷ 101 ∷ 114 ∷ []
+abbrev pub order-keyword : List ℕ
+order-keyword = 111 ∷ 114 ∷ 100 ∷ 101 ∷ 114 ∷ []
 
-abbrev pub cared-word : List ℕ
-cared-word = 99 ∷ 97 ∷ 114 ∷ 101 ∷ 100 ∷ []
+abbrev pub cared-keyword : List ℕ
+cared-keyword = 99 ∷ 97 ∷ 114 ∷ 101 ∷ 100 ∷ []
 
-abbrev pub cells-word : List ℕ
-cells-word = 99 ∷ 101 ∷ 108 ∷ 108 ∷ 115 ∷ []
+abbrev pub cells-keyword : List ℕ
+cells-keyword = 99 ∷ 101 ∷ 108 ∷ 108 ∷ 115 ∷ []
 
-abbrev pub cell-word : List ℕ
-cell-word = 99 ∷ 101 ∷ 108 ∷ 108 ∷ []
+abbrev pub cell-keyword : List ℕ
+cell-keyword = 99 ∷ 101 ∷ 108 ∷ 108 ∷ []
 
-abbrev pub root-word : List ℕ
-root-word = 114 ∷ 111 ∷ 111 ∷ 116 ∷ []
+abbrev pub root-keyword : List ℕ
+root-keyword = 114 ∷ 111 ∷ 111 ∷ 116 ∷ []
 
 abbrev pub space : List ℕ
 space = 32 ∷ []
@@ -61,7 +61,7 @@ line word x = word ++ (spaced x ++ newline)
 
 -- 'order' and the variables, the top level first; 'At n = 0 the order line is `order`'
 unfoldable pub orderLine : ℕ → List ℕ → List ℕ
-orderLine n order = order-word ++ (inTurn (λ i. spaced (getD order i 0)) n ++ newline)
+orderLine n order = order-keyword ++ (inTurn (λ i. spaced (getD order i 0)) n ++ newline)
 
 -- 'Cell lines: number, place, 0-arrow, 1-arrow'; the i-th of the list, from 0, has the number i + 1
 unfoldable pub nodeText : List ℕ → ℕ → List ℕ
@@ -69,11 +69,11 @@ nodeText cells i =
     spaced (getD cells (3 * i) 0) ++ (spaced (getD cells (3 * i + 1) 0) ++ (spaced (getD cells (3 * i + 2) 0) ++ newline))
 
 unfoldable pub cellLine : List ℕ → ℕ → List ℕ
-cellLine cells i = cell-word ++ (spaced (i + 1) ++ nodeText cells i)
+cellLine cells i = cell-keyword ++ (spaced (i + 1) ++ nodeText cells i)
 
 -- 'Root lines: output, reference'
 unfoldable pub rootLine : List ℕ → ℕ → List ℕ
-rootLine roots j = root-word ++ (spaced j ++ (spaced (getD roots j 0) ++ newline))
+rootLine roots j = root-keyword ++ (spaced j ++ (spaced (getD roots j 0) ++ newline))
 
 -- the lines of the cells counted and lent, then of the roots
 unfoldable pub networkLines : ℕ → ℕ → List ℕ → List ℕ → List ℕ
@@ -89,12 +89,12 @@ stateOrder s = orderLine (min (s .n) mostVariables) (s .order)
 
 -- the lines of the cared bits and of the count
 unfoldable pub totalLines : ℕ → ℕ → List ℕ
-totalLines cared count = line cared-word cared ++ line cells-word count
+totalLines cared count = line cared-keyword cared ++ line cells-keyword count
 
 -- the lines above the cells
 unfoldable pub headingLines : State → ℕ → List ℕ
 headingLines s cared =
-    line inputs-word (s .n) ++ (line outputs-word (s .m) ++ (stateOrder s ++ totalLines cared (s .count)))
+    line inputs-keyword (s .n) ++ (line outputs-keyword (s .m) ++ (stateOrder s ++ totalLines cared (s .count)))
 
 -- section 8's whole output for a table and its network
 unfoldable pub networkText : State → ℕ → List ℕ → List ℕ → List ℕ

@@ -18,6 +18,7 @@ use Rattle.diagram.proofs.Demands.{right, as-drawn, least-cost, fits}
 use Rattle.diagram.proofs.Filling.FreeRows.{Alike, cost-alike, network-alike, sift-alike, pass-alike}
 use Rattle.diagram.proofs.Orders.Sift.{sifted}
 use Rattle.diagram.proofs.Orders.Pass.{turns-least}
+use Rattle.diagram.proofs.Networks.Count.{cost-nodes}
 use Rattle.table.specs.declared.Answer.the-variants.{Done, TooSmall}
 use Rattle.table.specs.declared.Outcome.{Outcome}
 use Rattle.table.specs.declared.State.{State}
@@ -27,7 +28,6 @@ use Rattle.table.proofs.Held.{ordered}
 use Rattle.fill.specs.Calls.{heldTable}
 use Rattle.lent.specs.Lent.{lentDiagram}
 use Rattle.network.specs.Build.{heldNetwork, wanted, capacity, longEnough, reachesBoard, buildAnswer, buildOutcome, buildRoots, buildCells}
-use Rattle.network.proofs.LinksRead.TraceRead.{cost-nodes}
 use Rattle.network.proofs.Building.LentNetwork.{lent-held}
 use Rattle.network.proofs.Building.Outcomes.{Succeeded, succeeded, done-outcome, done-roots, done-cells}
 use Rattle.sift.specs.Calls.{siftOutcome, passOutcome}

@@ -1,12 +1,13 @@
 -- The count of the nodes, level by level: the list of the nodes and the list of the counts come to one total.
 -- Assumes nothing.
 use mathlib.Core.Path.{_≡_, refl, sym, ap, ap₂, _∙_}
-use mathlib.Core.Bool.{Bool}
+use mathlib.Core.Bool.{Bool, true}
 use mathlib.Core.List.{List, map, sum}
 use Prim.Native.Nat.{ℕ, zero, suc, _+_}
 use lib.ListN.{length, length-append, length-map}
 use Rattle.diagram.specs.Tree.{Tree, halves}
-use Rattle.diagram.specs.Networks.Network.{classes, nodeOf, nodes, counts, count}
+use Rattle.diagram.specs.Networks.Network.{classes, nodeOf, nodes, counts, count, network}
+use Rattle.diagram.specs.Table.{Table, networkOf, cost}
 
 -- how many nodes stand at the d levels from the segments ts on
 abbrev pub total : Bool → (d : ℕ) → List (Tree Bool d) → ℕ
@@ -37,3 +38,8 @@ pub counts-length : (inv : Bool) (d : ℕ) (ts : List (Tree Bool d)) → length 
 unfolding counts
 counts-length inv zero ts = refl
 counts-length inv (suc d) ts = ap suc (counts-length inv d (halves ts))
+
+-- an order's cost is the length of its network's list
+pub cost-nodes : (t : Table) (order : List ℕ) → cost t order ≡ length (networkOf true t order .nodes)
+unfolding cost count networkOf network
+cost-nodes t order = refl

@@ -15,6 +15,7 @@ use Rattle.diagram.specs.Table.{filled, cost}
 use Rattle.diagram.specs.Networks.Bound.{mostNodes}
 use Rattle.diagram.specs.Networks.Trace.{differing}
 use Rattle.diagram.proofs.Networks.Bound.{few-cost}
+use Rattle.diagram.proofs.Networks.Count.{cost-nodes}
 use Rattle.table.specs.declared.State.{State}
 use Rattle.table.specs.State.{orderOf, stageOf, isNothing}
 use Rattle.table.proofs.Held.{few-inputs, few-outputs}
@@ -24,7 +25,7 @@ use Rattle.fill.proofs.Room.LinksRoom.{linksLimit}
 use Rattle.fill.proofs.Counting.PerLevel.{per-level-at}
 use Rattle.network.specs.Build.{heldNetwork, wanted}
 use Rattle.network.proofs.LinksRead.LevelsRead.{Sized}
-use Rattle.network.proofs.LinksRead.TraceRead.{kss, lss, counts-traced, cost-nodes, trace-room}
+use Rattle.network.proofs.LinksRead.TraceRead.{kss, lss, counts-traced, trace-room}
 use Rattle.network.proofs.LinksRead.TraceSized.{lower-length, trace-sized, entries-half}
 
 module _ (s : State) (values care : List ℕ) where

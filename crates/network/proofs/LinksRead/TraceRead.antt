@@ -1,7 +1,7 @@
 -- The links of a table's filling, read level by level: the cells and roots that come of it are section 4's network, whatever buffer holds
 -- the links and whoever counted the levels' entries and nodes.
 -- Assumes nothing.
-use mathlib.Core.Path.{_≡_, refl, sym, ap, _∙_, subst}
+use mathlib.Core.Path.{_≡_, sym, ap, _∙_, subst}
 use mathlib.Core.Bool.{true}
 use mathlib.Core.List.{List, [], _++_, map}
 use Prim.Native.Nat.{ℕ, _+_, _*_, _-_, _≤_, _<_}
@@ -20,7 +20,7 @@ use Rattle.lists.proofs.Written.Outside.{Outside, past-same}
 use Rattle.diagram.specs.Tree.{Tree}
 use Rattle.diagram.specs.Filling.Fill.{Row, Link, trace}
 use Rattle.diagram.specs.Networks.Diagram.{Node, Diagram}
-use Rattle.diagram.specs.Networks.Network.{network, count, counts}
+use Rattle.diagram.specs.Networks.Network.{counts}
 use Rattle.diagram.specs.Table.{Table, reordered, filled, networkOf, cost}
 use Rattle.diagram.specs.Networks.Bound.{mostVariables, mostOutputs}
 use Rattle.diagram.specs.Networks.Trace.{differing, linkRef, tracedRefs, tracedNodes, tracedNetwork, tracedCounts}
@@ -28,6 +28,7 @@ use Rattle.diagram.proofs.Filling.Fill.{links-length}
 use Rattle.diagram.proofs.Filling.Levels.{linksOf, lower, trace-lower}
 use Rattle.diagram.proofs.Tracing.Rising.{AllValid}
 use Rattle.diagram.proofs.Tracing.Traced.{traced, traced-counts}
+use Rattle.diagram.proofs.Networks.Count.{cost-nodes}
 use Rattle.fill.specs.Work.{workSize, linksAt, allLinks, zeroWork, clearedWork}
 use Rattle.fill.specs.Counts.{differingPairs}
 use Rattle.fill.proofs.Room.LinksRoom.{linksLimit, links-room}
@@ -81,10 +82,6 @@ module _ (t : Table) (order : List ℕ) where
   unfolding tracedCounts filled
   counts-traced = ap tracedCounts (sym (trace-lower true (t .n) drawn)) ∙ traced-counts true (t .n) drawn
 
-  pub cost-nodes : cost t order ≡ length (networkOf true t order .nodes)
-  unfolding cost count networkOf network
-  cost-nodes = refl
-
   -- where the links stand, those of the outputs come first
   module _ (w : List ℕ) (held : Links w linksAt (allLinks kss)) where
     links-all : Links w linksAt (linksOf true drawn ++ allLinks lss)
@@ -127,7 +124,7 @@ module _ (t : Table) (order : List ℕ) where
       pub read-total : sumBelow (λ q. getD counts q 0) (t .n) ≡ cost t order
       read-total =
           ap (sumBelow (λ q. getD counts q 0)) (sym levels-length) ∙ sized-nodes (t .m) entries counts lss 0 sized
-          ∙ zero-add (length (tracedNodes true 0 0 lss)) ∙ ap length (sym network-nodes) ∙ sym cost-nodes
+          ∙ zero-add (length (tracedNodes true 0 0 lss)) ∙ ap length (sym network-nodes) ∙ sym (cost-nodes t order)
 
       -- the buffer w holds the links, and past its size it is as the lent one, work
       module _ (w work cells : List ℕ) (held : Links w linksAt (allLinks kss)) (long : workSize ≤ length w)
@@ -166,7 +163,7 @@ module _ (t : Table) (order : List ℕ) where
             → readMade .cells ≡ numbersOf (networkOf true t order .nodes) ++ drop (3 * cost t order) cells
         read-cells h =
             let ns = networkOf true t order .nodes in
-            let e : 0 + length (numbersOf ns) ≡ 3 * cost t order = omega (arith, numbers-length ns, cost-nodes) in
+            let e : 0 + length (numbersOf ns) ≡ 3 * cost t order = omega (arith, numbers-length ns, cost-nodes t order) in
             read .stored ∙ ap (λ (l : List Node). sets cells 0 (numbersOf l)) (sym network-nodes)
             ∙ sets-eq (numbersOf ns) cells 0 (omega arith) ∙ ap (λ k. numbersOf ns ++ drop k cells) e
 

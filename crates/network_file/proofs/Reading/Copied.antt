@@ -12,7 +12,7 @@ use Rattle.lists.proofs.Written.Over.{length-over, getD-over}
 use Rattle.diagram.specs.Networks.Diagram.{Node}
 use Rattle.table.specs.File.{fileOutputs}
 use Rattle.table.proofs.Files.Accepted.{AcceptedShape}
-use Rattle.lent.specs.Lent.{nodeOf, numberIn, lentNode, lentDiagram, rootsSize}
+use Rattle.lent.specs.Lent.{nodeBy, numberIn, lentNode, lentDiagram, rootsSize}
 use Rattle.lent.proofs.Nodes.{lent-diagram}
 use Rattle.lent.proofs.Sizes.{roots-size}
 use Rattle.network_file.specs.File.{fileCount, fileRoot, cellNumber, fileNode, fileDiagram}
@@ -37,7 +37,7 @@ pub record Copied (file cells roots : List ℕ) : Type 0 where
   pub enough-roots : rootsSize ≤ length roots
 
 -- nodes by their three numbers
-node-same : (f g : ℕ → ℕ) (count : ℕ) → ((x : ℕ) → x < 3 * count → f x ≡ g x) → (i : ℕ) → i < count → nodeOf f i ≡ nodeOf g i
+node-same : (f g : ℕ → ℕ) (count : ℕ) → ((x : ℕ) → x < 3 * count → f x ≡ g x) → (i : ℕ) → i < count → nodeBy f i ≡ nodeBy g i
 node-same f g count e i h = rw (e (3 * i) (omega arith), e (3 * i + 1) (omega arith), e (3 * i + 2) (omega arith))
 
 module _ (file : List ℕ) (fit : fileOutputs file ≤ rootsSize) where

@@ -14,7 +14,7 @@ use Rattle.table.specs.File.{fileInputs, fileOutputs}
 use Rattle.table.specs.Calls.{planeSize, loadedState}
 use Rattle.fill.specs.Work.{workSize}
 use Rattle.lent.specs.Lent.{numbersOf, rootsSize}
-use Rattle.text.specs.Text.{inputs-word, outputs-word, line, orderLine, totalLines, networkLines}
+use Rattle.text.specs.Text.{inputs-keyword, outputs-keyword, line, orderLine, totalLines, networkLines}
 use Rattle.printed.specs.Input.{inputAnswer, inputCare}
 use Rattle.printed.specs.Built.{refusedLine, carePlane, fileNetwork, outputValues, outputCare, outputWork, outputRoots, outputCells, Whole}
 use Rattle.printed.specs.Output.{textSize, fileCared, fileText, outputOf}
@@ -49,7 +49,7 @@ module _ (file values care work roots cells : List ℕ) (v : length values ≡ p
       ∙ text-after (loadedState file) (carePlane file []) roots (drop (3 * length (D .nodes)) cells) D
       (to-not (loaded-held file a)) (omega (arith, built.care-length file values care work roots cells v c w r k e))
       ∙ ap
-      (λ (order : List ℕ). line inputs-word n ++ (line outputs-word m ++ (orderLine n order
+      (λ (order : List ℕ). line inputs-keyword n ++ (line outputs-keyword m ++ (orderLine n order
       ++ (totalLines (fileCared file) (length (D .nodes))
       ++ networkLines (length (D .nodes)) m (D .roots) (numbersOf (D .nodes)))))) (loaded-order file a)
 

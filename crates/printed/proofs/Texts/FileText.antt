@@ -25,7 +25,7 @@ use Rattle.lent.specs.Lent.{numbersOf, rootsSize}
 use Rattle.lent.proofs.Sizes.{roots-size}
 use Rattle.network.specs.Build.{networkState}
 use Rattle.network.proofs.LinksRead.LevelsRead.{numbers-length}
-use Rattle.text.specs.Text.{inputs-word, outputs-word, spaced, inTurn, line, orderLine, nodeText, cellLine, rootLine, networkLines, heldLines, stateOrder, totalLines, headingLines, networkText}
+use Rattle.text.specs.Text.{inputs-keyword, outputs-keyword, spaced, inTurn, line, orderLine, nodeText, cellLine, rootLine, networkLines, heldLines, stateOrder, totalLines, headingLines, networkText}
 
 in-turn-same : (f g : ℕ → List ℕ) (k : ℕ) → ((i : ℕ) → i < k → f i ≡ g i) → inTurn f k ≡ inTurn g k
 in-turn-same f g zero h = refl
@@ -95,7 +95,7 @@ module _ (s : State) (care roots cells : List ℕ) (D : Diagram) (held : T (not 
 
   -- section 8's lines, of the numbers of inputs and outputs, the order, the care and the network
   pub text-after : networkText after (value (caredAnswer after care)) references numbers
-      ≡ line inputs-word (s .n) ++ (line outputs-word (s .m) ++ (orderLine (s .n) (orderOf s)
+      ≡ line inputs-keyword (s .n) ++ (line outputs-keyword (s .m) ++ (orderLine (s .n) (orderOf s)
       ++ (totalLines (caredBits (s .n) (s .m) care) (length (D .nodes))
       ++ networkLines (length (D .nodes)) (s .m) (D .roots) (numbersOf (D .nodes)))))
   unfolding networkText headingLines

@@ -32,7 +32,7 @@ use Rattle.network.proofs.Building.HeldRead.{few-wanted}
 use Rattle.network.proofs.Building.Outcomes.{done-outcome, done-roots, done-cells}
 use Rattle.text.specs.Text.{networkText}
 use Rattle.printed.specs.Input.{inputValues, inputCare}
-use Rattle.printed.specs.Built.{refused-word, refusedLine}
+use Rattle.printed.specs.Built.{refused-keyword, refusedLine}
 use Rattle.printed.specs.Output.{textSize}
 use Rattle.printed.specs.BuiltInput.{read, isRead, builtOutcome, builtRoots, builtCells}
 use Rattle.printed.specs.inner.Printed.{outcomeText, printedText}
@@ -42,7 +42,7 @@ use Rattle.printed.proofs.Texts.TextLength.{spaced-two, line-few, netwo
 -- a refusal's line is short
 pub refused-few : (a : Answer) → length (refusedLine a) ≤ 11
 unfolding refusedLine
-refused-few a = line-few refused-word (number a) 3 (spaced-two (number a) (number-few a))
+refused-few a = line-few refused-keyword (number a) 3 (spaced-two (number a) (number-few a))
 
 refused-fits : (a : Answer) → length (refusedLine a) ≤ textSize
 refused-fits a = omega (arith, refused-few a)

@@ -13,14 +13,14 @@ use Rattle.text.specs.Text.{line, networkText}
 use Rattle.text.specs.Written.{Written}
 use Rattle.text.proofs.Writing.{written-as}
 use Rattle.printed.specs.Input.{inputCare}
-use Rattle.printed.specs.Built.{refused-word, refusedLine}
+use Rattle.printed.specs.Built.{refused-keyword, refusedLine}
 use Rattle.printed.specs.BuiltInput.{builtOutcome, builtRoots, builtCells}
 use Rattle.printed.specs.inner.Printed.{outcomeText, printedText}
 
-pub written-refusal : {l m : List ℕ} {i j : ℕ} (a : Answer) (x : ℕ) → x ≡ number a → Written l m i j (line refused-word x)
+pub written-refusal : {l m : List ℕ} {i j : ℕ} (a : Answer) (x : ℕ) → x ≡ number a → Written l m i j (line refused-keyword x)
     → Written l m i j (refusedLine a)
 unfolding refusedLine
-written-refusal a x e w = written-as (ap (line refused-word) e) w
+written-refusal a x e w = written-as (ap (line refused-keyword) e) w
 
 pub cared-value : (s : State) (care : List ℕ) (a : Answer) (x : ℕ) → a ≡ caredAnswer s care → x ≡ value a → x ≡ value (caredAnswer s care)
 cared-value s care a x e p = p ∙ ap value e

@@ -11,7 +11,7 @@ use Rattle.lists.proofs.Bools.{split}
 use Rattle.diagram.specs.Networks.Bound.{mostVariables, mostOutputs, mostNodes}
 use Rattle.table.specs.declared.State.{State}
 use Rattle.table.specs.State.{stageOf, isNetwork}
-use Rattle.text.specs.Text.{inputs-word, outputs-word, order-word, cared-word, cells-word, cell-word, root-word, space, newline, digits, decimal, spaced, inTurn, line, orderLine, nodeText, cellLine, rootLine, networkLines, heldLines, stateOrder, totalLines, headingLines, networkText}
+use Rattle.text.specs.Text.{inputs-keyword, outputs-keyword, order-keyword, cared-keyword, cells-keyword, cell-keyword, root-keyword, space, newline, digits, decimal, spaced, inTurn, line, orderLine, nodeText, cellLine, rootLine, networkLines, heldLines, stateOrder, totalLines, headingLines, networkText}
 use Rattle.printed.specs.Output.{textSize}
 
 -- a number below 10 to the k has at most k digits, where k is not 0
@@ -72,7 +72,7 @@ unfolding cellLine
 cell-few cells i h k =
     omega (
       arith,
-      length-append cell-word (spaced (i + 1) ++ nodeText cells i),
+      length-append cell-keyword (spaced (i + 1) ++ nodeText cells i),
       length-append (spaced (i + 1)) (nodeText cells i),
       spaced-four (i + 1) (omega arith),
     )
@@ -84,7 +84,7 @@ root-few roots j h k =
     let r = getD roots j 0 in
     omega (
       arith,
-      length-append root-word (spaced j ++ (spaced r ++ newline)),
+      length-append root-keyword (spaced j ++ (spaced r ++ newline)),
       length-append (spaced j) (spaced r ++ newline),
       length-append (spaced r) newline,
       spaced-two j (omega arith),
@@ -103,7 +103,7 @@ module _ (s : State) (cared : ℕ) (roots cells : List ℕ)
       let f : ℕ → List ℕ = λ i. spaced (getD (s .order) i 0) in
       omega (
         arith,
-        length-append order-word (inTurn f n ++ newline),
+        length-append order-keyword (inTurn f n ++ newline),
         length-append (inTurn f n) newline,
         in-turn-few f 6 n (λ i h. spaced-five (getD (s .order) i 0) (entry i (omega arith))),
       )
@@ -113,24 +113,24 @@ module _ (s : State) (cared : ℕ) (roots cells : List ℕ)
   totals-few =
       omega (
         arith,
-        length-append (line cared-word cared) (line cells-word (s .count)),
-        line-few cared-word cared 6 (spaced-five cared bits),
-        line-few cells-word (s .count) 5 (spaced-four (s .count) (omega arith)),
+        length-append (line cared-keyword cared) (line cells-keyword (s .count)),
+        line-few cared-keyword cared 6 (spaced-five cared bits),
+        line-few cells-keyword (s .count) 5 (spaced-four (s .count) (omega arith)),
       )
 
   heading-few : length (headingLines s cared) ≤ 6 * mostVariables + 50
   unfolding headingLines
   heading-few =
-      let a = line inputs-word (s .n) in
-      let b = line outputs-word (s .m) in
+      let a = line inputs-keyword (s .n) in
+      let b = line outputs-keyword (s .m) in
       let c = totalLines cared (s .count) in
       omega (
         arith,
         length-append a (b ++ (stateOrder s ++ c)),
         length-append b (stateOrder s ++ c),
         length-append (stateOrder s) c,
-        line-few inputs-word (s .n) 3 (spaced-two (s .n) (omega arith)),
-        line-few outputs-word (s .m) 3 (spaced-two (s .m) (omega arith)),
+        line-few inputs-keyword (s .n) 3 (spaced-two (s .n) (omega arith)),
+        line-few outputs-keyword (s .m) 3 (spaced-two (s .m) (omega arith)),
         order-few,
         totals-few,
       )

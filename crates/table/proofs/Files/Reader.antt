@@ -13,7 +13,7 @@ use Rattle.table.specs.declared.Answer.{Answer}
 use Rattle.table.specs.declared.Answer.the-variants.{BadCheck, BadKind}
 use Rattle.table.specs.Answer.{unless}
 use Rattle.table.specs.File.{kindOf, goodKind, fieldsAnswer, headingAnswer, firstBit, tailAnswer, blockAnswer}
-use Rattle.table.specs.inner.Reader.{carriedAnswer, kindAnswer, readAnswer}
+use Rattle.table.specs.inner.Reader.{carriedAnswer, kindAnswer, readBlockAnswer}
 
 -- the kind that block k is to have
 
@@ -73,21 +73,21 @@ module _ (bits blocks : ℕ) (file : List ℕ) (k : ℕ) where
       (λ e. wrong-kind 3 2 (kind-values blocks k (eqb-false k 0 e) h) (λ d. omega arith))
 
   -- the check, then the kind as it was read
-  pub check-wrong : goodCheck file k ≡ false → BadCheck ≡ readAnswer bits blocks file k
-  unfolding readAnswer
+  pub check-wrong : goodCheck file k ≡ false → BadCheck ≡ readBlockAnswer bits blocks file k
+  unfolding readBlockAnswer
   check-wrong e = rw e
 
   pub kind-read : goodCheck file k ≡ true → (x kind : ℕ) → x ≡ byte file k 0 → x ≡ kind
-      → (a : Answer) → a ≡ kindAnswer kind bits blocks file k → a ≡ readAnswer bits blocks file k
-  unfolding readAnswer
+      → (a : Answer) → a ≡ kindAnswer kind bits blocks file k → a ≡ readBlockAnswer bits blocks file k
+  unfolding readBlockAnswer
   kind-read t x kind e d a q = rw t (q ∙ ap (λ (j : ℕ). kindAnswer j bits blocks file k) (sym d ∙ e))
 
   -- a further block reads as section 6 says
-  pub read-further : (k ≡ 0 → ⊥) → readAnswer bits blocks file k ≡ blockAnswer bits blocks file k
-  unfolding readAnswer kindAnswer blockAnswer goodKind
+  pub read-further : (k ≡ 0 → ⊥) → readBlockAnswer bits blocks file k ≡ blockAnswer bits blocks file k
+  unfolding readBlockAnswer kindAnswer blockAnswer goodKind
   read-further n = rw (ne-eqb k 0 n)
 
 -- and so does block 0
-pub read-heading : (bits : ℕ) (file : List ℕ) → readAnswer bits 0 file 0 ≡ headingAnswer file
-unfolding readAnswer kindAnswer headingAnswer goodKind
+pub read-heading : (bits : ℕ) (file : List ℕ) → readBlockAnswer bits 0 file 0 ≡ headingAnswer file
+unfolding readBlockAnswer kindAnswer headingAnswer goodKind
 read-heading bits file = refl

@@ -20,5 +20,5 @@ kindAnswer kind bits blocks file k =
     unless (eqb kind (kindOf blocks k) && goodNumber file k) BadKind (cond (eqb k 0) (fieldsAnswer file) (tailAnswer bits blocks file k))
 
 -- the heading at block 0, a block of a stream at any other
-unfoldable pub readAnswer : ℕ → ℕ → List ℕ → ℕ → Answer
-readAnswer bits blocks file k = unless (goodCheck file k) BadCheck (kindAnswer (byte file k 0) bits blocks file k)
+unfoldable pub readBlockAnswer : ℕ → ℕ → List ℕ → ℕ → Answer
+readBlockAnswer bits blocks file k = unless (goodCheck file k) BadCheck (kindAnswer (byte file k 0) bits blocks file k)

@@ -6,7 +6,7 @@ use mathlib.Core.Bool.{true}
 use borrow.Author.Tests.{not-true, not-false}
 use denote.Ref.{now}
 use Rattle.diagram.specs.Networks.Diagram.{wellFormed}
-use Rattle.lent.specs.Lent.{diagramOf, numberIn, lentDiagram}
+use Rattle.lent.specs.Lent.{diagramBy, numberIn, lentDiagram}
 use Rattle.lent.proofs.Nodes.{lent-diagram}
 use Rattle.lent.proofs.Tested.{formed-not, formed-rest}
 use Rattle.lent.proofs.cells.well_formed.Statement.{statement}
@@ -15,7 +15,7 @@ use Rattle.lent.proofs.cells.well_formed.Tie as tie
 by-numbers : (c : tie.Start)
     → let a = c .args in
     wellFormed true (a .n) (a .m) (lentDiagram (a .count) (a .m) (now (a .cells)) (now (a .roots)))
-    ≡ wellFormed true (a .n) (a .m) (diagramOf (a .count) (a .m) (numberIn (now (a .cells))) (numberIn (now (a .roots))))
+    ≡ wellFormed true (a .n) (a .m) (diagramBy (a .count) (a .m) (numberIn (now (a .cells))) (numberIn (now (a .roots))))
 by-numbers c =
     let a = c .args in
     ap (wellFormed true (a .n) (a .m)) (lent-diagram (a .count) (a .m) (now (a .cells)) (now (a .roots)) (c .pre .1))

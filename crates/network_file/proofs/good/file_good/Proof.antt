@@ -7,7 +7,7 @@ use borrow.Author.Needs.{needs}
 use borrow.Author.Tests.{not-true, not-false}
 use denote.Ref.{now}
 use Rattle.diagram.specs.Networks.Diagram.{wellFormed}
-use Rattle.lent.specs.Lent.{diagramOf}
+use Rattle.lent.specs.Lent.{diagramBy}
 use Rattle.lent.proofs.Tested.{formed-not, formed-rest}
 use Rattle.network_file.specs.File.{fileRoot, cellNumber, fileDiagram}
 use Rattle.network_file.proofs.good.file_good.Statement.{statement}
@@ -17,12 +17,12 @@ use Rattle.network_file.proofs.good.file_good.Tie as tie
 own-formed : (c : tie.Start)
     → let a = c .args in
     let f = now (a .file) in
-    wellFormed true (a .n) (a .m) (diagramOf (a .count) (a .m) (cellNumber f) (fileRoot f)) ≡ wellFormed true (a .n) (a .m) (fileDiagram f)
+    wellFormed true (a .n) (a .m) (diagramBy (a .count) (a .m) (cellNumber f) (fileRoot f)) ≡ wellFormed true (a .n) (a .m) (fileDiagram f)
 unfolding fileDiagram
 own-formed c =
     let a = c .args in
     let f = now (a .file) in
-    ap₂ (λ (x y : ℕ). wellFormed true (a .n) (a .m) (diagramOf x y (cellNumber f) (fileRoot f))) (c .pre .0 .0) (c .pre .0 .1)
+    ap₂ (λ (x y : ℕ). wellFormed true (a .n) (a .m) (diagramBy x y (cellNumber f) (fileRoot f))) (c .pre .0 .0) (c .pre .0 .1)
 
 roots-good-requires : tie.Need-roots-good-requires
 roots-good-requires c κs = search needs

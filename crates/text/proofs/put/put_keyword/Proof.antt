@@ -4,7 +4,7 @@ use borrow.Author.Needs.{needs}
 use Prim.Native.Nat.{_-_, _≤_}
 use lib.ListN.{length, take}
 use Rattle.text.specs.Written.{Written}
-use Rattle.text.proofs.Writing.{written-room, written-word, written-length, written-whole}
+use Rattle.text.proofs.Writing.{written-room, written-keyword, written-length, written-whole}
 use Rattle.text.proofs.put.put_keyword.Statement.{statement}
 use Rattle.text.proofs.put.put_keyword.Tie as tie
 
@@ -30,7 +30,7 @@ loop-less : tie.Need-loop-less Inv-loop μ-loop
 loop-less c = search needs
 
 loop-again : tie.Need-loop-again Inv-loop μ-loop
-loop-again c = search (needs, written-word)
+loop-again c = search (needs, written-keyword)
 
 same-length : tie.Need-same-length Inv-loop μ-loop
 same-length c = search (needs, written-length)
