@@ -27,7 +27,8 @@ use Rattle.network.proofs.LinksRead.LevelsRead.{numbers-length}
 use Rattle.canonical.specs.Canonical.{canonicalAnswer}
 use Rattle.network_file.specs.Write.{fileSize, writeAnswer, writeWork}
 use Rattle.printed.specs.Input.{inputAnswer}
-use Rattle.printed.specs.Built.{refusedLine, valuesPlane, carePlane, fileNetwork, networkHeld, outputValues, outputCare, outputWork, outputRoots, outputCells, Whole}
+use Rattle.printed.specs.Built.{refusedLine, valuesPlane, carePlane, fileNetwork, networkHeld, outputValues}
+use Rattle.printed.specs.Built.{outputCare, outputWork, outputRoots, outputCells, Whole}
 use Rattle.printed.specs.BuiltInput.{builtOutcome}
 use Rattle.printed.proofs.Inputs.LoadedInput.{loaded-held}
 use Rattle.printed.proofs.Inputs.BuiltFile as built

@@ -8,7 +8,9 @@ use lib.ListN.{length, getD}
 use Rattle.diagram.specs.Networks.Bound.{mostVariables}
 use Rattle.table.specs.declared.State.{State}
 use Rattle.table.specs.State.{stageOf, isNetwork}
-use Rattle.text.specs.Text.{inputs-keyword, outputs-keyword, order-keyword, cared-keyword, cells-keyword, cell-keyword, root-keyword, newline, spaced, inTurn, line, orderLine, nodeText, cellLine, rootLine, networkLines, heldLines, stateOrder, totalLines, headingLines, networkText}
+use Rattle.text.specs.Text.{inputs-keyword, outputs-keyword, order-keyword, cared-keyword, cells-keyword, cell-keyword, root-keyword}
+use Rattle.text.specs.Text.{newline, spaced, inTurn, line, orderLine, nodeText, cellLine}
+use Rattle.text.specs.Text.{rootLine, networkLines, heldLines, stateOrder, totalLines, headingLines, networkText}
 use Rattle.text.specs.Written.{Written}
 use Rattle.text.proofs.Writing.{written-then, written-as, written-nothing}
 

@@ -7,7 +7,8 @@ use Prim.Native.Nat.{ℕ, zero, suc, _+_, _*_}
 use Rattle.lists.specs.Bits.{flip}
 use Rattle.lists.proofs.Bools.{split}
 use Rattle.diagram.specs.Tree.{Tree, leaf, node, draw, half, halves, pairs}
-use Rattle.diagram.specs.Filling.Fill.{Row, always, agree, merge, Link, Linked, Level, after, then, along, candidate, level, follow, settled, fill}
+use Rattle.diagram.specs.Filling.Fill.{Row, always, agree, merge, Link, Linked, Level, after}
+use Rattle.diagram.specs.Filling.Fill.{then, along, candidate, level, follow, settled, fill}
 use Rattle.diagram.specs.Filling.Fill.{unites, trace}
 use Rattle.diagram.proofs.Filling.Evened.{evened, nextOf}
 use Rattle.diagram.proofs.Filling.Fill.{fill-zero, fill-suc, trace-zero, trace-suc}

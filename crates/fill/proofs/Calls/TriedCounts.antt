@@ -24,7 +24,8 @@ use Rattle.table.specs.declared.State.{State}
 use Rattle.table.specs.State.{goodHeading, stageOf, isNothing}
 use Rattle.table.proofs.Held.{heading-inputs, heading-few}
 use Rattle.fill.specs.Work.{workSize, trialsSize, trialsZero, zeroWork}
-use Rattle.fill.specs.Calls.{enough, perLevel, countsSize, countsOf, countsPut, trialCounts, triedCounts, trialsAnswer, trialsCounts, trialsWork}
+use Rattle.fill.specs.Calls.{enough, perLevel, countsSize, countsOf, countsPut}
+use Rattle.fill.specs.Calls.{trialCounts, triedCounts, trialsAnswer, trialsCounts, trialsWork}
 use Rattle.fill.proofs.Buffers.Sizes.{sizes}
 use Rattle.fill.proofs.Calls.Filling.{cells-filled}
 use Rattle.fill.proofs.Lowered.TrialSizes.{trials-size}

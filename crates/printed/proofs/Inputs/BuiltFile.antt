@@ -29,7 +29,8 @@ use Rattle.network.proofs.Building.Outcomes.{done-outcome, done-roots, done-cel
 use Rattle.text.specs.Written.{Written}
 use Rattle.text.proofs.Writing.{written-as}
 use Rattle.printed.specs.Input.{tooLong, inputAnswer, inputOutcome, inputValues, inputCare}
-use Rattle.printed.specs.Built.{valuesPlane, carePlane, fileNetwork, networkHeld, outputValues, outputCare, outputWork, outputRoots, outputCells, Whole}
+use Rattle.printed.specs.Built.{valuesPlane, carePlane, fileNetwork, networkHeld, outputValues}
+use Rattle.printed.specs.Built.{outputCare, outputWork, outputRoots, outputCells, Whole}
 use Rattle.printed.specs.BuiltInput.{read, isRead, builtOutcome, builtWork, builtRoots, builtCells}
 use Rattle.printed.proofs.Inputs.LoadedInput.{loaded-order, read-accepted, read-state}
 use Rattle.printed.proofs.Inputs.BoardEnough.{answer-done}

@@ -25,7 +25,8 @@ use Rattle.lent.specs.Lent.{numbersOf, rootsSize}
 use Rattle.lent.proofs.Sizes.{roots-size}
 use Rattle.network.specs.Build.{networkState}
 use Rattle.network.proofs.LinksRead.LevelsRead.{numbers-length}
-use Rattle.text.specs.Text.{inputs-keyword, outputs-keyword, spaced, inTurn, line, orderLine, nodeText, cellLine, rootLine, networkLines, heldLines, stateOrder, totalLines, headingLines, networkText}
+use Rattle.text.specs.Text.{inputs-keyword, outputs-keyword, spaced, inTurn, line, orderLine, nodeText, cellLine}
+use Rattle.text.specs.Text.{rootLine, networkLines, heldLines, stateOrder, totalLines, headingLines, networkText}
 
 in-turn-same : (f g : ℕ → List ℕ) (k : ℕ) → ((i : ℕ) → i < k → f i ≡ g i) → inTurn f k ≡ inTurn g k
 in-turn-same f g zero h = refl

@@ -11,7 +11,9 @@ use Rattle.lists.proofs.Bools.{split}
 use Rattle.diagram.specs.Networks.Bound.{mostVariables, mostOutputs, mostNodes}
 use Rattle.table.specs.declared.State.{State}
 use Rattle.table.specs.State.{stageOf, isNetwork}
-use Rattle.text.specs.Text.{inputs-keyword, outputs-keyword, order-keyword, cared-keyword, cells-keyword, cell-keyword, root-keyword, space, newline, digits, decimal, spaced, inTurn, line, orderLine, nodeText, cellLine, rootLine, networkLines, heldLines, stateOrder, totalLines, headingLines, networkText}
+use Rattle.text.specs.Text.{inputs-keyword, outputs-keyword, order-keyword, cared-keyword, cells-keyword, cell-keyword, root-keyword, space}
+use Rattle.text.specs.Text.{newline, digits, decimal, spaced, inTurn, line, orderLine, nodeText}
+use Rattle.text.specs.Text.{cellLine, rootLine, networkLines, heldLines, stateOrder, totalLines, headingLines, networkText}
 use Rattle.printed.specs.Output.{textSize}
 
 -- a number below 10 to the k has at most k digits, where k is not 0
