@@ -1,4 +1,6 @@
 // Bytes, bits, words and numbers of lent slices, and the blocks of a file, whatever their kinds (document 01, section 1).
+#![tactic(auto)]
+
 pub mod bits;
 pub mod block;
 pub mod numbers;

@@ -10,7 +10,7 @@ use block::numbers::lent_number;
 use diagram::NODES;
 
 // The number after those of the nodes that stand at a level; Broken where they are not the next ones.
-#[derive(Drop)]
+#[derive(Clone, Copy)]
 enum Numbered {
     Next(usize),
     Broken,

@@ -1,4 +1,6 @@
 // Writes the network file of the table on standard input to standard output (document 02, 2.2).
+#![tactic(auto)]
+
 use filed::output::write_network_file;
 use fill::WORK;
 use lent::ROOTS;

@@ -1,4 +1,6 @@
 // Filling and counting in a lent work buffer (document 01, section 3).
+#![tactic(auto)]
+
 mod cells;
 pub mod counts;
 mod descent;
@@ -39,7 +41,7 @@ const TRIALS: usize = 5 * REGION;
 pub const COUNTS: usize = VARIABLES * VARIABLES;
 
 // What a filling answers: the cells in all, and the entries and the cells of each level.
-#[derive(Drop)]
+#[derive(Clone, Copy)]
 pub struct Levels {
     pub answer: Answer,
     pub entries: [usize; VARIABLES],

@@ -27,7 +27,7 @@ const DOWN: usize = 2 * REGION;
 const LEVEL_LINKS: usize = 4 * REGION;
 
 // The kept entries: where they lie, how many they are, and the cells of each level above them.
-#[derive(Drop)]
+#[derive(Clone, Copy)]
 pub(crate) struct Kept {
     pub from: usize,
     pub entries: usize,

@@ -11,7 +11,7 @@ use crate::wide::first_words;
 use crate::words::{WORD, part_word};
 
 // How many entries there are after a candidate, and the number of the candidate's link.
-#[derive(Drop)]
+#[derive(Clone, Copy)]
 pub(crate) struct Linked {
     pub entries: usize,
     pub link: usize,

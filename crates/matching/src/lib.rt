@@ -1,5 +1,7 @@
 // One level of the filling on lent bytes (document 01, section 3): candidates are linked to the first entry that agrees, merged into it, or
 // put behind the entries; their links are written as numbers. A call refuses where it hasn't all that it needs: it writes nothing then.
+#![tactic(auto)]
+
 mod bytes;
 mod copy;
 mod entries;

@@ -1,4 +1,6 @@
 // Network files: writing one of held cells, and reading one again (document 02, 2.2).
+#![tactic(auto)]
+
 mod blocks;
 mod content;
 mod copy;

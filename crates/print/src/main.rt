@@ -1,4 +1,6 @@
 // Prints the network of the table on standard input (document 01, section 8).
+#![tactic(auto)]
+
 use fill::WORK;
 use lent::ROOTS;
 use libc::{STDIN_FILENO, STDOUT_FILENO};

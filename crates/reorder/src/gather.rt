@@ -12,7 +12,7 @@ use block::bits::digit_at;
 use diagram::{OUTPUTS, VARIABLES};
 
 // Rows of both planes, the first in the lowest bit.
-#[derive(Drop)]
+#[derive(Clone, Copy)]
 struct Gathered {
     values: u8,
     care: u8,

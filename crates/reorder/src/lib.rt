@@ -1,5 +1,7 @@
 // Document 01, section 3: 'Reorder the table so that the top place is the most significant row bit.' The drawn row behind each row
 // under an order, and an output's rows gathered into packed bytes.
+#![tactic(auto)]
+
 pub mod gather;
 pub mod rows;
 pub mod width;

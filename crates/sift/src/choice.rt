@@ -9,7 +9,7 @@ use diagram::VARIABLES;
 use table::order::level_of;
 
 // A variable, and its nodes.
-#[derive(Drop)]
+#[derive(Clone, Copy)]
 pub(crate) struct Lead {
     pub variable: usize,
     pub nodes: usize,

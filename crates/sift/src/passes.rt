@@ -17,7 +17,7 @@ use table::valid::holds_table;
 use table::{Answer, Outcome, State};
 
 // A pass under way: the order, the nodes of each level under it, a mark for each variable sifted, the turns taken, and the orders tried.
-#[derive(Drop)]
+#[derive(Clone, Copy)]
 pub(crate) struct Progress {
     pub order: [usize; VARIABLES],
     pub counts: [usize; VARIABLES],

@@ -17,7 +17,7 @@ use table::order::level_of;
 use table::{Stage, State};
 
 // The best level for a variable so far, the nodes with the variable there, and how many orders were tried to find it.
-#[derive(Drop)]
+#[derive(Clone, Copy)]
 pub(crate) struct Best {
     pub level: usize,
     pub cost: usize,
@@ -25,7 +25,7 @@ pub(crate) struct Best {
 }
 
 // The best level, and the nodes of each level with the variable there.
-#[derive(Drop)]
+#[derive(Clone, Copy)]
 pub(crate) struct Sifted {
     pub best: Best,
     pub counts: [usize; VARIABLES],

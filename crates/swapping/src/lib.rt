@@ -1,4 +1,6 @@
 // Swapping two neighbouring levels of a held network in its cells (document 02, 2.7).
+#![tactic(auto)]
+
 mod exchange;
 mod pairs;
 mod seen;

@@ -14,7 +14,7 @@ use block::numbers::lent_number;
 pub(crate) const SLOTS: usize = 8192;
 
 // How many entries a list has after a pair is seen, and the number of the pair's link.
-#[derive(Drop)]
+#[derive(Clone, Copy)]
 pub(crate) struct Placed {
     pub(crate) len: usize,
     pub(crate) link: usize,

@@ -1,4 +1,6 @@
 // The table file, the state that every call takes and gives back, and what a call answers (document 01, sections 1, 2, 6 and 7).
+#![tactic(auto)]
+
 pub mod cared;
 mod file;
 pub mod load;
@@ -13,7 +15,7 @@ use diagram::VARIABLES;
 // The bytes of values or care that a call uses; specs/Calls.antt has the definition, `plane_size`.
 pub const PLANE: usize = 2048;
 
-#[derive(Drop)]
+#[derive(Clone, Copy)]
 pub enum Stage {
     Nothing,
     Table,
@@ -21,7 +23,7 @@ pub enum Stage {
 }
 
 // What is held: n variables, m outputs, the variable at each level, and the nodes of the network if one is held.
-#[derive(Drop)]
+#[derive(Clone, Copy)]
 pub struct State {
     pub n: usize,
     pub m: usize,
@@ -31,7 +33,7 @@ pub struct State {
 }
 
 // What a call answers; specs/Answer.antt has each one's number. `NoSuch` is 9: no such input, or p + 1 not below n.
-#[derive(Drop)]
+#[derive(Clone, Copy)]
 pub enum Answer {
     Done(usize),
     BadLength,
@@ -55,7 +57,7 @@ pub enum Answer {
 }
 
 // An answer, and the state after the call.
-#[derive(Drop)]
+#[derive(Clone, Copy)]
 pub struct Outcome {
     pub answer: Answer,
     pub state: State,

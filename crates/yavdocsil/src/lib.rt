@@ -1,4 +1,6 @@
 // The calls for C, Python and every language that calls C: fixed names, slices as a pointer and a length, the state as words.
+#![tactic(auto)]
+
 mod answer;
 pub mod build;
 pub mod cells;

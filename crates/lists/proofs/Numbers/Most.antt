@@ -1,7 +1,7 @@
 -- The first of a list with the most, and that it is the lowest of those where the list rises; the numbers below n rise.
 -- Assumes nothing.
-use mathlib.Core.Path.{ap}
-use mathlib.Core.Bool.{Bool, true, false, not, ◌&&◌}
+use mathlib.Core.Path.{ap, subst⁻¹}
+use mathlib.Core.Bool.{Bool, true, false, not, cond, ◌&&◌}
 use mathlib.Core.List.{List, [], ◌∷◌, ◌++◌}
 use mathlib.Core.Logic.{⊎_elim}
 use Prim.Native.Nat.{ℕ, zero, suc, ◌≤◌, ◌<◌}
@@ -71,8 +71,10 @@ module _ (f : ℕ → ℕ) where
   most_of-has v [] = has_here eqb eqb-equality v []
   most_of-has v (w ∷ ws) =
       split (ltb (f v) (f w))
-      (λ e. rw e (or_r (eqb (most_of f w ws) v) (has eqb (most_of f w ws) (w ∷ ws)) (most_of-has w ws)))
-      (λ e. rw e (⊎_elim (λ s. or_l (eqb (most_of f v ws) v) (has eqb (most_of f v ws) (w ∷ ws)) s)
+      (λ e. subst⁻¹ (λ (b : Bool). T (has eqb (cond b (most_of f w ws) (most_of f v ws)) (v ∷ w ∷ ws))) e
+      (or_r (eqb (most_of f w ws) v) (has eqb (most_of f w ws) (w ∷ ws)) (most_of-has w ws)))
+      (λ e. subst⁻¹ (λ (b : Bool). T (has eqb (cond b (most_of f w ws) (most_of f v ws)) (v ∷ w ∷ ws))) e
+      (⊎_elim (λ s. or_l (eqb (most_of f v ws) v) (has eqb (most_of f v ws) (w ∷ ws)) s)
       (λ s. or_r (eqb (most_of f v ws) v) (has eqb (most_of f v ws) (w ∷ ws)) (or_r (eqb (most_of f v ws) w) (has eqb (most_of f v ws) ws) s))
       (or_cases (eqb (most_of f v ws) v) (has eqb (most_of f v ws) ws) (most_of-has v ws))))
 

@@ -1,0 +1,16 @@
+-- `block::bits::first_word` meets its contract. The loop's invariant: the word is that of the first k bytes, and below 2 ^ (8 × k).
+-- Assumes nothing.
+use borrow.Author.Rules.{rules}
+use Prim.Native.Nat.{ℕ, ◌+◌, ◌*◌, ◌-◌, ◌^◌, ◌≤◌, ◌<◌}
+use mathlib.Core.Path.{◌≡◌, ap, ◌∙◌}
+use Rattle.block.specs.Bits.{word_of}
+use native.Mathlib.Omega.{arith}
+use lib.ListN.{get_or}
+use Rattle.block.proofs.Words.{word_more}
+use Rattle.block.proofs.bits.first_word.Given as goal
+
+abbrev pub invariant-loop-k : goal.invariant-loop-k
+invariant-loop-k l = (l.k ≤ 8) × (l.word ≡ word_of l.bytes 0 l.k) × (l.word < 2 ^ (8 * l.k))
+
+abbrev pub decreases-loop-k : goal.decreases-loop-k
+decreases-loop-k l = 8 - l.k

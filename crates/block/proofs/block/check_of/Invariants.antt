@@ -1,0 +1,16 @@
+-- `block::block::check_of` meets its contract. The loop's invariant: the total is the sum over the bytes passed, and at most 510 × 255
+-- for each. Assumes nothing.
+use mathlib.Core.Path.{◌≡◌, refl}
+use Prim.Native.Nat.{suc, ◌*◌, ◌-◌, ◌≤◌}
+use native.Mathlib.Omega.{arith}
+use Rattle.lists.specs.Sums.{sum_below}
+use Rattle.lists.proofs.Numbers.Sums.{sum_more}
+use Rattle.block.specs.Block.{check_at, byte}
+use Rattle.block.proofs.Check.{check-is}
+use Rattle.block.proofs.block.check_of.Given as goal
+
+abbrev pub invariant-loop-i : goal.invariant-loop-i
+invariant-loop-i l = (l.i ≤ check_at) × (l.total ≡ sum_below (λ j. suc j * byte l.file l.k j) l.i) × (l.total ≤ check_at * 255 * l.i)
+
+abbrev pub decreases-loop-i : goal.decreases-loop-i
+decreases-loop-i l = check_at - l.i

@@ -1,0 +1,17 @@
+-- `block::numbers::all_below` meets its contract: the numbers before number j are below the limit.
+-- Assumes nothing.
+use borrow.Author.Rules.{rules}
+use mathlib.Core.Path.{◌≡◌, refl, sym}
+use mathlib.Core.Bool.{true}
+use Prim.Native.Nat.{◌-◌, ◌≤◌}
+use native.Mathlib.Omega.{arith}
+use lib.ListN.{length}
+use Rattle.lists.specs.Lists.{all, up_to}
+use Rattle.block.proofs.Elements.{below, one-beyond, one_below, every-below}
+use Rattle.block.proofs.numbers.all_below.Given as goal
+
+abbrev pub invariant-loop-j : goal.invariant-loop-j
+invariant-loop-j l = (l.j ≤ length l.numbers) × (all (below l.limit l.numbers) (up_to l.j) ≡ true)
+
+abbrev pub decreases-loop-j : goal.decreases-loop-j
+decreases-loop-j l = length l.numbers - l.j

@@ -1,0 +1,18 @@
+-- `table::file::blocks_answer` meets its contract. The loop's invariant: the answer is that of the blocks from block k on.
+-- Assumes nothing.
+use mathlib.Core.Path.{◌≡◌, sym, ap, ◌∙◌}
+use Prim.Native.Nat.{suc, ◌*◌, ◌-◌, ◌≤◌}
+use borrow.Author.Tests.{not-true, not-false}
+use native.Mathlib.Omega.{arith}
+use Rattle.table.specs.Answer.{done}
+use Rattle.table.specs.File.{block_answer, blocks_answer}
+use Rattle.table.proofs.Files.Answers.{refusal-next, refusal-stop, refusal-end}
+use Rattle.table.proofs.Files.Reader.{read-further}
+use Rattle.table.proofs.file.blocks_answer.Given as goal
+
+abbrev pub invariant-loop-k : goal.invariant-loop-k
+invariant-loop-k l = (1 ≤ l.k) × (l.k ≤ suc (2 * l.blocks))
+    × (blocks_answer l.bits l.blocks l.file 1 (2 * l.blocks) ≡ blocks_answer l.bits l.blocks l.file l.k (suc (2 * l.blocks) - l.k))
+
+abbrev pub decreases-loop-k : goal.decreases-loop-k
+decreases-loop-k l = suc (2 * l.blocks) - l.k
