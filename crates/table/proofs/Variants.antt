@@ -63,10 +63,10 @@ done-value a e = ⊎_elim (λ d. d) (λ r. absurd (omega (arith, r.numbered))) (
 pub is-first : (a : Answer) → tag_of the_type a ≡ 0 → true ≡ done a
 is-first a e = ⊎_elim (λ d. ap done d) (λ r. absurd (r.tagged e)) (by-variant a)
 
-pub is-other : (a : Answer) → OneOf refusals (tag_of the_type a) → false ≡ done a
+-- an answer that is no success
+pub is-other : (a : Answer) → ((v : ℕ) → a ≡ Done v → ⊥) → false ≡ done a
 is-other a o =
-    ⊎_elim (λ d. absurd (miss refusals 0 tt (subst (λ (b : Answer). OneOf refusals (tag_of the_type b)) (sym d) o)))
-    (λ r. sym (ne_eqb (number a) 0 (λ e. omega (arith, r.numbered)))) (by-variant a)
+    ⊎_elim (λ d. absurd (o (value a) (sym d))) (λ r. sym (ne_eqb (number a) 0 (λ e. omega (arith, r.numbered)))) (by-variant a)
 
 -- a success is none of the others
 pub never_other {ℓ} : {X : Type ℓ} (a : Answer) (v : ℕ) → a ≡ Done v → OneOf refusals (tag_of the_type a) → X

@@ -1,0 +1,51 @@
+use borrow.Author.Rules.{rules}
+use mathlib.Core.Path.{sym, subst}
+use mathlib.Core.Logic.{⊎_elim}
+use Prim.Native.Nat.{◌+◌, ◌≤◌, ◌-◌}
+use native.Mathlib.Omega.{arith}
+use Rattle.canonical.proofs.Standing.{Follows, follows-none, follows-bound, follows-end, follows-other, follows_next, follows-broken}
+use Rattle.canonical.proofs.walk.standing_from.Goals as goal
+
+pub loop-i-init : goal.loop-i-init
+loop-i-init c =
+    let a = c.args in
+    (search rules, follows-none a.cells.now a.p a.next a.seen.now)
+
+pub returns-then-k-after : goal.returns-then-k-after
+returns-then-k-after c =
+    let l = c.loop-i in
+    let a = c.args in
+    let k = c.lent_number-k in
+    let p = c.lent_number in
+    follows-broken a.cells.now a.p a.next a.seen.now l.i l.after l.invariant.1 (omega arith)
+    k.result p.result k.ensures.0 p.ensures.0 c.if-lent_number-p.true a.len c.loop-i-test.true c.requires.0
+    c.if-k-after.true
+
+pub overflow_add-after : goal.overflow_add-after
+overflow_add-after c =
+    let l = c.loop-i in
+    let a = c.args in
+    omega (arith, follows-bound a.cells.now a.p a.next a.seen.now l.i l.after l.invariant.1 (omega arith))
+
+pub loop-i-preserved : goal.loop-i-preserved
+loop-i-preserved c =
+    let l = c.loop-i in
+    let a = c.args in
+    let k = c.lent_number-k in
+    let p = c.lent_number in (
+      search rules,
+      ⊎_elim
+          (λ w. subst (Follows a.cells.now a.p a.next a.seen.now (l.i + 1)) (sym w.2)
+          (follows_next a.cells.now a.p a.next a.seen.now l.i l.after l.invariant.1 (omega arith)
+          k.result p.result k.ensures.0 p.ensures.0 w.0.taken w.1.left))
+          (λ w. subst (Follows a.cells.now a.p a.next a.seen.now (l.i + 1)) (sym w.1)
+          (follows-other a.cells.now a.p a.next a.seen.now l.i l.after l.invariant.1 (omega arith)
+          k.result p.result k.ensures.0 p.ensures.0 w.0.left))
+          c.if-lent_number-p.branch,
+    )
+
+pub returns : goal.returns
+returns c =
+    let l = c.loop-i in
+    let a = c.args in
+    follows-end a.cells.now a.p a.next a.seen.now l.i l.after l.invariant.1 a.len (omega arith)

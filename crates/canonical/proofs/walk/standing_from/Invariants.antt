@@ -1,0 +1,15 @@
+-- `canonical::walk::standing_from` meets its contract: those of the first i nodes seen that stand at the level are the next ones.
+-- Assumes nothing.
+use borrow.Author.Rules.{rules}
+use mathlib.Core.Path.{sym, subst}
+use mathlib.Core.Logic.{⊎_elim}
+use Prim.Native.Nat.{◌+◌, ◌≤◌, ◌-◌}
+use native.Mathlib.Omega.{arith}
+use Rattle.canonical.proofs.Standing.{Follows, follows-none, follows-bound, follows-end, follows-other, follows_next, follows-broken}
+use Rattle.canonical.proofs.walk.standing_from.Given as goal
+
+abbrev pub invariant-loop-i : goal.invariant-loop-i
+invariant-loop-i l = (l.i ≤ l.len) × Follows l.cells l.p l.next l.seen l.i l.after
+
+abbrev pub decreases-loop-i : goal.decreases-loop-i
+decreases-loop-i l = l.len - l.i

@@ -1,0 +1,66 @@
+-- `fill::outputs::link_output` meets its contract: what lies at the front of what is gathered is the output. Assumes nothing.
+use borrow.Author.Rules.{rules}
+use mathlib.Core.Path.{◌≡◌, ap, ◌∙◌}
+use mathlib.Core.List.{List, [], ◌∷◌}
+use Prim.Native.Nat.{ℕ, ◌+◌, ◌*◌, ◌-◌, ◌≤◌}
+use lib.ListN.{length, take}
+use Rattle.reorder.specs.Sizes.{width, part_size}
+use Rattle.reorder.specs.Gather.{gathered_part}
+use Rattle.reorder.proofs.Shifts.{part-size, width_room, width-met}
+use Rattle.reorder.proofs.Gathered.{length-gathered, part-front}
+use Rattle.fill.specs.Work.{links_at}
+use Rattle.matching.specs.Parts.{level_parts}
+use Rattle.matching.specs.Level.{parts_at, written}
+use Rattle.fill.proofs.Buffers.Sizes.{sizes}
+use Rattle.fill.proofs.outputs.link_output.Goals as goal
+use Rattle.fill.proofs.outputs.link_output.Goals.{After-width_of-w}
+
+wide : (w : After-width_of-w) → w.width_of-w.result ≡ width w.args.n
+wide w = w.width_of-w.ensures ∙ width-met w.args.n w.requires.n_le_most_variables.0
+
+fits : (w : After-width_of-w) → w.width_of-w.result + w.width_of-w.result ≤ part_size
+fits w = omega (sizes, wide w, width_room w.args.n w.requires.n_le_most_variables.0)
+
+pub overflow_add-s : goal.overflow_add-s
+overflow_add-s c =
+    omega (sizes, part-size, fits (goal.at.overflow_add-s c).After-width_of-w)
+
+pub slice_bounds-link_part-end : goal.slice_bounds-link_part-end
+slice_bounds-link_part-end c =
+    omega (sizes, part-size, fits (goal.at.slice_bounds-link_part-end c).After-width_of-w)
+
+-- the output at the front of what is gathered
+abbrev output-of : After-width_of-w → List ℕ
+output-of w =
+    let a = w.args in
+    gathered_part a.values.now a.care.now a.rows a.n a.j
+
+output : (w : After-width_of-w)
+    → take (w.width_of-w.result + w.width_of-w.result - 0) w.gather_output-part.result ≡ output-of w
+output w =
+    let a = w.args in
+    ap (take (w.width_of-w.result + w.width_of-w.result - 0)) w.gather_output-part.ensures
+    ∙ part-front a.values.now a.care.now a.rows a.n a.j (w.width_of-w.result + w.width_of-w.result - 0)
+    w.requires.n_le_most_variables.0 w.requires.n_le_most_variables.1 (omega (sizes, wide w))
+
+pub link_part-requires : goal.link_part-requires
+link_part-requires c =
+    let a = c.args in record {
+      d_le_most_variables = (
+        c.requires.n_le_most_variables.0,
+        ap length (output (goal.at.link_part-requires c).After-width_of-w) ∙ length-gathered a.values.now a.care.now a.rows a.n a.j,
+      );
+      word_size_in_bounds = (omega (sizes, c.requires.work_size_in_bounds), c.requires.n_le_most_variables.2);
+      l_in_bounds = omega (sizes, c.requires.work_size_in_bounds, c.requires.n_le_most_variables.1);
+    }
+
+pub returns : goal.returns
+unfolding links_at
+returns c =
+    let a = c.args in
+    let m = a.work.now in record {
+      entries = c.link_part.ensures.entries
+          ∙ ap (λ (y : List ℕ). length (level_parts (width a.n) (parts_at a.n a.k 0 m) (y ∷ [])).parts) (output (goal.at.returns c).After-width_of-w);
+      work = c.link_part.ensures.work
+          ∙ ap (λ (y : List ℕ). written (level_parts (width a.n) (parts_at a.n a.k 0 m) (y ∷ [])) 0 (8192 + 2 * a.j) m) (output (goal.at.returns c).After-width_of-w);
+    }

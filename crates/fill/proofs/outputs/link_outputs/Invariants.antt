@@ -1,0 +1,16 @@
+-- `fill::outputs::link_outputs` meets its contract. The loop's invariant: the first j outputs are linked. Assumes nothing.
+use borrow.Author.Rules.{rules}
+use mathlib.Core.Path.{◌≡◌, refl, subst}
+use Prim.Native.Nat.{ℕ, ◌-◌, ◌≤◌, ◌<◌, zero-le}
+use native.Mathlib.Nat.{le_antisymm}
+use native.Mathlib.Omega.{arith}
+use lib.ListN.{length}
+use Rattle.diagram.specs.Networks.Bound.{most_outputs}
+use Rattle.fill.proofs.Linking.LinkedOutputs.{Linked, linked-none, output-room, output-linked}
+use Rattle.fill.proofs.outputs.link_outputs.Given as goal
+
+abbrev pub invariant-loop-j : goal.invariant-loop-j
+invariant-loop-j l = (l.j ≤ l.m) × Linked l.n l.values l.care l.rows l.initial.work l.j l.k l.work × (length l.work ≡ length l.initial.work)
+
+abbrev pub decreases-loop-j : goal.decreases-loop-j
+decreases-loop-j l = l.m - l.j

@@ -1,0 +1,72 @@
+-- `lent::follow::next` meets its contract: the cell behind the reference is lent, and its level is below n.
+-- Assumes nothing.
+use borrow.Author.Rules.{rules}
+use mathlib.Core.Path.{◌∙◌}
+use Prim.Native.Nat.{◌+◌, ◌-◌, ◌/◌, ◌≤◌}
+use native.Mathlib.Omega.{arith}
+use Rattle.lists.proofs.Bits.Digits.{digit-le}
+use Rattle.lent.specs.Lent.{lent_node}
+use Rattle.lent.specs.Inner.Cells.{level_bit}
+use Rattle.lent.proofs.LevelBits.{level-masked}
+use Rattle.lent.proofs.SelectedEdge.{edge-selected}
+use Rattle.lent.proofs.Following.{own-le, level-below, edge-behind}
+use Rattle.lent.proofs.follow.next.Goals as goal
+use Rattle.lent.proofs.follow.next.Goals.{Start}
+
+-- the reference is to a counted cell
+counted : (s : Start) → s.args.r ≤ s.args.count + s.args.count + 1
+counted s =
+    let a = s.args in
+    own-le a.n a.count a.cells.now s.requires.0 a.r s.requires.1.0 s.requires.1.1
+
+pub overflow_mul-first : goal.overflow_mul-first
+overflow_mul-first c =
+    omega (arith, counted (goal.at.overflow_mul-first c).Start, c.requires.0.held)
+
+pub tested_number-p-requires : goal.tested_number-p-requires
+tested_number-p-requires c =
+    omega (arith, counted (goal.at.tested_number-p-requires c).Start, c.requires.0.held)
+
+pub overflow_add-first : goal.overflow_add-first
+overflow_add-first c =
+    omega (arith, counted (goal.at.overflow_add-first c).Start, c.requires.0.held)
+
+pub tested_number-low-requires : goal.tested_number-low-requires
+tested_number-low-requires c =
+    omega (arith, counted (goal.at.tested_number-low-requires c).Start, c.requires.0.held)
+
+pub overflow_add-first-2 : goal.overflow_add-first-2
+overflow_add-first-2 c =
+    omega (arith, counted (goal.at.overflow_add-first-2 c).Start, c.requires.0.held)
+
+pub tested_number-high-requires : goal.tested_number-high-requires
+tested_number-high-requires c =
+    omega (arith, counted (goal.at.tested_number-high-requires c).Start, c.requires.0.held)
+
+pub overflow_shr-bits : goal.overflow_shr-bits
+overflow_shr-bits c =
+    let a = c.args in
+    omega (
+      arith,
+      c.requires.0.few,
+      c.tested_number-p.ensures,
+      level-below a.n a.count a.cells.now c.requires.0 a.r c.requires.1.0 c.requires.1.1,
+    )
+
+pub selected_edge-requires : goal.selected_edge-requires
+selected_edge-requires c =
+    let a = c.args in
+    let p = c.tested_number-p.result in
+    omega (arith, level-masked a.bits p, digit-le (level_bit a.bits p))
+
+pub returns : goal.returns
+returns c =
+    let a = c.args in
+    let p = c.tested_number-p in
+    let low = c.tested_number-low in
+    let high = c.tested_number-high in
+    c.selected_edge.ensures
+    ∙ edge-selected (level_bit a.bits p.result) (lent_node a.cells.now (a.r / 2 - 1)) _ low.result high.result
+    (level-masked a.bits p.result) low.ensures high.ensures
+    ∙ edge-behind a.n a.count a.cells.now c.requires.0 a.r c.requires.1.0 c.requires.1.1 (level_bit a.bits)
+    p.result p.ensures

@@ -1,0 +1,23 @@
+-- `lent::tabulate::write_table` meets its contract. The loop's invariant: both planes are written over as far as byte i.
+-- Assumes nothing.
+use mathlib.Core.Path.{◌≡◌, refl, ap, ◌∙◌}
+use Prim.Native.Nat.{ℕ, ◌*◌, ◌-◌, ◌%◌, ◌^◌, ◌≤◌}
+use native.Mathlib.Omega.{arith}
+use Rattle.lists.specs.Written.{over}
+use Rattle.lists.proofs.Written.Over.{over-next}
+use Rattle.table.specs.Stream.{plane_byte}
+use Rattle.table.specs.Calls.{plane_size}
+use Rattle.table.proofs.Files.Answers.{stream-small, shifted-out}
+use Rattle.table.proofs.Planes.PlaneSize.{plane-size, plane-length, plane-whole}
+use Rattle.lent.specs.Tabulate.{lent_table}
+use Rattle.lent.specs.Inner.Tabulate.{ones_byte}
+use Rattle.lent.proofs.Tabulating.{ones-care}
+use Rattle.lent.proofs.tabulate.write_table.Given as goal
+
+abbrev pub invariant-loop-i : goal.invariant-loop-i
+invariant-loop-i l = (l.i ≤ plane_size)
+    × ((l.values ≡ over (plane_byte (λ x. x.value) (lent_table l.state l.roots l.cells)) l.i l.initial.values)
+    × (l.care ≡ over (plane_byte (λ x. x.care) (lent_table l.state l.roots l.cells)) l.i l.initial.care))
+
+abbrev pub decreases-loop-i : goal.decreases-loop-i
+decreases-loop-i l = plane_size - l.i

@@ -1,0 +1,19 @@
+-- `reorder::gather::gather_bytes` meets its contract. The invariant: both bytes have their b lowest bits.
+-- Assumes nothing.
+use borrow.Author.Rules.{rules}
+use mathlib.Core.Path.{◌≡◌, ap, ◌∙◌}
+use mathlib.Core.Bool.{Bool}
+use mathlib.Core.List.{List}
+use Prim.Native.Nat.{ℕ, ◌+◌, ◌*◌, ◌≤◌, ◌<◌, ◌-◌}
+use native.Mathlib.Omega.{arith}
+use lib.ListN.{get_or}
+use Rattle.lists.proofs.Bits.Packed.{bit-more}
+use Rattle.block.specs.Bits.{stream_bit}
+use Rattle.reorder.specs.Gather.{gathered_byte}
+use Rattle.reorder.proofs.gather.gather_bytes.Given as goal
+
+abbrev pub invariant-loop-b : goal.invariant-loop-b
+invariant-loop-b l = (l.b ≤ l.k) × (l.v ≡ gathered_byte l.values l.base l.map l.b l.i) × (l.c ≡ gathered_byte l.care l.base l.map l.b l.i)
+
+abbrev pub decreases-loop-b : goal.decreases-loop-b
+decreases-loop-b l = l.k - l.b

@@ -1,0 +1,17 @@
+-- `rowlog::counts::sum_of` meets its contract. The invariant: the sum of the first i counts, each at most `most_records`.
+-- Assumes nothing.
+use borrow.Author.Rules.{rules}
+use mathlib.Core.Path.{◌≡◌, refl, ap, ◌∙◌}
+use Prim.Native.Nat.{◌*◌, ◌-◌, ◌≤◌}
+use native.Mathlib.Omega.{arith}
+use lib.ListN.{get_or}
+use Rattle.lists.specs.Sums.{sum_below}
+use Rattle.lists.proofs.Numbers.Sums.{sum_more}
+use Rattle.rowlog.specs.Log.{most_records}
+use Rattle.rowlog.proofs.counts.sum_of.Given as goal
+
+abbrev pub invariant-loop-i : goal.invariant-loop-i
+invariant-loop-i l = (l.i ≤ l.end) × ((l.sum ≡ sum_below (λ k. get_or l.counts k 0) l.i) × (l.sum ≤ l.i * most_records))
+
+abbrev pub decreases-loop-i : goal.decreases-loop-i
+decreases-loop-i l = l.end - l.i

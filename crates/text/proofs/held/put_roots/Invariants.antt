@@ -1,0 +1,14 @@
+-- `text::held::put_roots` meets its contract.
+-- Assumes nothing.
+use borrow.Author.Rules.{rules}
+use Prim.Native.Nat.{◌-◌, ◌≤◌}
+use Rattle.text.specs.Text.{root_line, in_turn}
+use Rattle.text.specs.Written.{Written}
+use Rattle.text.proofs.Writing.{written-room, written-more, written-length, written-in-turn}
+use Rattle.text.proofs.held.put_roots.Given as goal
+
+abbrev pub invariant-loop-j : goal.invariant-loop-j
+invariant-loop-j l = (l.j ≤ l.m) × Written l.initial.out l.out l.at l.next (in_turn (root_line l.roots) l.j)
+
+abbrev pub decreases-loop-j : goal.decreases-loop-j
+decreases-loop-j l = l.m - l.j
