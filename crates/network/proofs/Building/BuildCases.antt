@@ -23,7 +23,7 @@ use Rattle.table.specs.Answer.{done, number}
 use Rattle.table.specs.State.{order_of, stage_of, is_nothing}
 use Rattle.table.specs.contracts.Answer.{the_type}
 use Rattle.table.proofs.Held.{few-inputs, few-outputs}
-use Rattle.table.proofs.Variants.{refusals, is-other}
+use Rattle.table.proofs.Variants.{is-other}
 use Rattle.fill.specs.declared.Levels.{Levels}
 use Rattle.fill.specs.Work.{work_size, cleared_work, trace_work}
 use Rattle.fill.specs.Calls.{held_table, count_answer, levels_of, links_work}
@@ -83,7 +83,7 @@ module _ (s : State) (values care work roots cells : List ℕ) where
     counted : k.answer ≡ count_answer s values care work
     counted = ap (λ (x : Levels). x.answer) ek ∙ levels-answer s values care work
 
-    pub refused-case : OneOf refusals (tag_of the_type k.answer)
+    pub refused-case : ((v : ℕ) → k.answer ≡ Done v → ⊥)
         → Ended (outcome k.answer s) w roots cells
     refused-case t =
         let x = k.answer in

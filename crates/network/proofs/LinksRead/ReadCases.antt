@@ -20,7 +20,7 @@ use Rattle.table.specs.declared.Answer.{Answer}
 use Rattle.table.specs.declared.Answer.TheVariants.{Done, ShortBuffer, TooSmall}
 use Rattle.table.specs.Answer.{unless, unless_refused, done, number, value}
 use Rattle.table.specs.contracts.Answer.{the_type}
-use Rattle.table.proofs.Variants.{refusals, is-other}
+use Rattle.table.proofs.Variants.{is-other}
 use Rattle.fill.specs.declared.Levels.{Levels}
 use Rattle.fill.specs.Work.{work_size, zero_work, cleared_work}
 use Rattle.fill.specs.Counts.{links_fit, linked_levels}
@@ -85,7 +85,7 @@ module _ (n m : ℕ) (entries work roots cells : List ℕ) where
       count-is : k.answer ≡ levels.answer
       count-is = ap (λ (x : Levels). x.answer) ek
 
-      pub refused-case : OneOf refusals (tag_of the_type k.answer) → Ended k.answer work roots cells
+      pub refused-case : ((v : ℕ) → k.answer ≡ Done v → ⊥) → Ended k.answer work roots cells
       refused-case t =
           let d : done levels.answer ≡ false = sym (ap done count-is) ∙ sym (is-other k.answer t) in
           let s : levels.answer ≡ ShortBuffer =

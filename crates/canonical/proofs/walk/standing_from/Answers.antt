@@ -5,6 +5,7 @@ use Prim.Native.Nat.{◌+◌, ◌≤◌, ◌-◌}
 use native.Mathlib.Omega.{arith}
 use Rattle.canonical.proofs.Standing.{Follows, follows-none, follows-bound, follows-end, follows-other, follows_next, follows-broken}
 use Rattle.canonical.proofs.walk.standing_from.Goals as goal
+use Rattle.canonical.proofs.walk.standing_from.Goals.{then-lent_number-p+else-k-after, else-lent_number-p}
 
 pub loop-i-init : goal.loop-i-init
 loop-i-init c =
@@ -34,14 +35,14 @@ loop-i-preserved c =
     let k = c.lent_number-k in
     let p = c.lent_number in (
       search rules,
-      ⊎_elim
-          (λ w. subst (Follows a.cells.now a.p a.next a.seen.now (l.i + 1)) (sym w.2)
-          (follows_next a.cells.now a.p a.next a.seen.now l.i l.after l.invariant.1 (omega arith)
-          k.result p.result k.ensures.0 p.ensures.0 w.0.taken w.1.left))
-          (λ w. subst (Follows a.cells.now a.p a.next a.seen.now (l.i + 1)) (sym w.1)
-          (follows-other a.cells.now a.p a.next a.seen.now l.i l.after l.invariant.1 (omega arith)
-          k.result p.result k.ensures.0 p.ensures.0 w.0.left))
-          c.if-lent_number-p.branch,
+      elim c.if-lent_number-p.branch [
+        | then-lent_number-p+else-k-after w ↦ subst (Follows a.cells.now a.p a.next a.seen.now (l.i + 1)) (sym w.after-is)
+            (follows_next a.cells.now a.p a.next a.seen.now l.i l.after l.invariant.1 (omega arith)
+            k.result p.result k.ensures.0 p.ensures.0 w.if-lent_number-p.true w.if-k-after.false)
+        | else-lent_number-p w ↦ subst (Follows a.cells.now a.p a.next a.seen.now (l.i + 1)) (sym w.after-is)
+            (follows-other a.cells.now a.p a.next a.seen.now l.i l.after l.invariant.1 (omega arith)
+            k.result p.result k.ensures.0 p.ensures.0 w.if-lent_number-p.false)
+      ],
     )
 
 pub returns : goal.returns

@@ -1,0 +1,15 @@
+-- `network::levels::links_end` meets its contract: the end so far is where the level begins.
+-- Assumes nothing.
+use mathlib.Core.Path.{◌≡◌, ap, ◌∙◌}
+use Prim.Native.Nat.{◌≤◌, ◌-◌}
+use native.Mathlib.Omega.{arith}
+use Rattle.fill.proofs.Buffers.Sizes.{work-size, links-at}
+use Rattle.network.specs.Levels.{level_at}
+use Rattle.network.proofs.LinksRead.Offsets.{first-at, next-at, within}
+use Rattle.network.proofs.levels.links_end.Given as goal
+
+abbrev pub invariant-loop-p : goal.invariant-loop-p
+invariant-loop-p l = (l.p ≤ l.n) × (l.end ≡ level_at l.m l.entries l.p)
+
+abbrev pub decreases-loop-p : goal.decreases-loop-p
+decreases-loop-p l = l.n - l.p

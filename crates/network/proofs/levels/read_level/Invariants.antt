@@ -1,0 +1,15 @@
+-- `network::levels::read_level` meets its contract: after j turns, what j entries make.
+-- Assumes nothing.
+use mathlib.Core.Path.{◌≡◌, refl, ap, ◌∙◌}
+use Prim.Native.Nat.{◌≤◌, ◌-◌}
+use native.Mathlib.Omega.{arith}
+use Rattle.network.specs.Levels.{made, level_made}
+use Rattle.network.proofs.LinksRead.Entries.{turn-work, turn-cells, turn-next, turn-made}
+use Rattle.network.proofs.levels.read_entry.Reads as read-entry-reads
+use Rattle.network.proofs.levels.read_level.Given as goal
+
+abbrev pub invariant-loop-j : goal.invariant-loop-j
+invariant-loop-j l = (l.j ≤ l.e) × (made l.work l.cells l.next ≡ level_made l.p l.below l.i l.j (made l.initial.work l.initial.cells l.base))
+
+abbrev pub decreases-loop-j : goal.decreases-loop-j
+decreases-loop-j l = l.e - l.j
