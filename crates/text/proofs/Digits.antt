@@ -20,6 +20,7 @@ pub written_last : {l m : List ℕ} {i j : ℕ} (f x : ℕ) → f ≡ 0 → Writ
 written_last f x e w = written_as (ap (λ (k : ℕ). digits k x) (sym e)) w
 
 pub digits_more : (f x : ℕ) → 10 ≤ x → 0 < f → digits f x ≡ digits (f - 1) (x / 10) ++ ((48 + x % 10) ∷ [])
+digits_more zero x h k = elim k [ ]
 digits_more (suc f) x h k =
     let e : f ≡ suc f - 1 = omega arith in
     rw (le-ltb x 10 h) (ap (λ (q : ℕ). digits q (x / 10) ++ ((48 + x % 10) ∷ [])) e)

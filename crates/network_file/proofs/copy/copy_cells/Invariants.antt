@@ -1,0 +1,16 @@
+-- `network_file::copy::copy_cells` meets its contract: the numbers so far are written over those lent.
+-- Assumes nothing.
+use mathlib.Core.Path.{◌≡◌, refl, ap, ◌∙◌}
+use Prim.Native.Nat.{◌*◌, ◌≤◌, ◌-◌}
+use native.Mathlib.Omega.{arith}
+use lib.ListN.{length}
+use Rattle.lists.specs.Written.{over}
+use Rattle.lists.proofs.Written.Over.{over-next, length_over}
+use Rattle.network_file.specs.File.{cell_number}
+use Rattle.network_file.proofs.copy.copy_cells.Given as goal
+
+abbrev pub invariant-loop-x : goal.invariant-loop-x
+invariant-loop-x l = (l.x ≤ 3 * l.count) × (l.cells ≡ over (cell_number l.file) l.x l.initial.cells)
+
+abbrev pub decreases-loop-x : goal.decreases-loop-x
+decreases-loop-x l = 3 * l.count - l.x

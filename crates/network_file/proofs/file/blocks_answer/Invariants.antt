@@ -1,0 +1,18 @@
+-- `network_file::file::blocks_answer` meets its contract. The loop's invariant: the answer is that of the blocks from block k on.
+-- Assumes nothing.
+use mathlib.Core.Path.{◌≡◌, sym, ap, ◌∙◌}
+use Prim.Native.Nat.{suc, ◌-◌, ◌≤◌}
+use borrow.Author.Tests.{not-true, not-false}
+use native.Mathlib.Omega.{arith}
+use Rattle.table.specs.Answer.{done, first_refusal}
+use Rattle.table.proofs.Files.Answers.{refusal-next, refusal-stop, refusal-end}
+use Rattle.network_file.specs.File.{cells_block}
+use Rattle.network_file.proofs.Reading.BlockRead.{read-further}
+use Rattle.network_file.proofs.file.blocks_answer.Given as goal
+
+abbrev pub invariant-loop-k : goal.invariant-loop-k
+invariant-loop-k l = (1 ≤ l.k) × (l.k ≤ suc l.blocks)
+    × (first_refusal (cells_block l.count l.file) 1 l.blocks ≡ first_refusal (cells_block l.count l.file) l.k (suc l.blocks - l.k))
+
+abbrev pub decreases-loop-k : goal.decreases-loop-k
+decreases-loop-k l = suc l.blocks - l.k

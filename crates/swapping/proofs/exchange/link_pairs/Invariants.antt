@@ -1,0 +1,16 @@
+-- `swapping::exchange::link_pairs` meets its contract: the first j entries are linked.
+-- Assumes nothing.
+use borrow.Author.Rules.{rules}
+use mathlib.Core.Path.{◌≡◌, refl, sym, ◌∙◌, subst}
+use Prim.Native.Nat.{ℕ, ◌-◌, ◌≤◌}
+use native.Mathlib.Omega.{arith}
+use lib.ListN.{length}
+use Rattle.swapping.specs.Inner.Exchange.{lent_at}
+use Rattle.swapping.proofs.LevelLinks.{Turns, turns-none, turns-few, turns_more}
+use Rattle.swapping.proofs.exchange.link_pairs.Given as goal
+
+abbrev pub invariant-loop-j : goal.invariant-loop-j
+invariant-loop-j l = (l.j ≤ l.e) × Turns (lent_at l.cells) l.p l.q l.seen l.at l.initial.work l.j l.len l.list l.marks l.work × (length l.list ≡ length l.initial.list) × (length l.work ≡ length l.initial.work)
+
+abbrev pub decreases-loop-j : goal.decreases-loop-j
+decreases-loop-j l = l.e - l.j

@@ -1,0 +1,17 @@
+-- `swapping::exchange::link_roots` meets its contract: the first j roots are linked.
+-- Assumes nothing.
+use borrow.Author.Rules.{rules}
+use mathlib.Core.Path.{◌≡◌, refl, sym, ap, ◌∙◌, subst}
+use Prim.Native.Nat.{ℕ, ◌+◌, ◌*◌, ◌-◌, ◌≤◌}
+use native.Mathlib.Omega.{arith}
+use lib.ListN.{length}
+use Rattle.diagram.specs.Exchanging.Exchange.{both}
+use Rattle.fill.proofs.Buffers.Sizes.{links-at}
+use Rattle.swapping.proofs.RootLinks.{Rooted, roots-none, roots_few, roots-more}
+use Rattle.swapping.proofs.exchange.link_roots.Given as goal
+
+abbrev pub invariant-loop-j : goal.invariant-loop-j
+invariant-loop-j l = (l.j ≤ l.m) × Rooted l.roots l.initial.work l.j l.len l.list l.marks l.work × (length l.list ≡ length l.initial.list) × (length l.work ≡ length l.initial.work)
+
+abbrev pub decreases-loop-j : goal.decreases-loop-j
+decreases-loop-j l = l.m - l.j

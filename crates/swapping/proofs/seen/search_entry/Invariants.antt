@@ -1,0 +1,18 @@
+-- `swapping::seen::search_entry` meets its contract: none of the entries before entry i is of the class.
+-- Assumes nothing.
+use borrow.Author.Rules.{rules}
+use mathlib.Core.Path.{◌≡◌, refl, sym, ◌∙◌, subst}
+use mathlib.Core.Bool.{false}
+use Prim.Native.Nat.{ℕ, ◌≤◌, ◌-◌}
+use native.Mathlib.Omega.{arith}
+use Rattle.lists.specs.Lists.{has}
+use Rattle.diagram.specs.Exchanging.Exchange.{same_class}
+use Rattle.swapping.specs.Inner.Exchange.{pair_of, pairs_in}
+use Rattle.swapping.proofs.SeenPairs.{found_at, found_none, none_more}
+use Rattle.swapping.proofs.seen.search_entry.Given as goal
+
+abbrev pub invariant-loop-i : goal.invariant-loop-i
+invariant-loop-i l = (l.i ≤ l.len) × (has same_class (pair_of l.x) (pairs_in l.i l.list) ≡ false)
+
+abbrev pub decreases-loop-i : goal.decreases-loop-i
+decreases-loop-i l = l.len - l.i
