@@ -1,0 +1,75 @@
+-- `yavdocsil::build::yav_build` meets its contract: what `build` owes of its outcome is carried to the answer and the words.
+-- Assumes nothing.
+use borrow.Author.Rules.{rules}
+use mathlib.Core.Path.{refl, sym, ap, ◌∙◌, subst}
+use mathlib.Core.Bool.{true}
+use Rattle.diagram.specs.Demands.{NoneFits}
+use Rattle.table.specs.declared.Outcome.{Outcome}
+use Rattle.table.specs.State.{order_of}
+use Rattle.fill.specs.Calls.{held_table}
+use Rattle.lent.specs.Lent.{lent_diagram}
+use Rattle.network.specs.Build.{capacity, reaches_board, Built}
+use Rattle.yavdocsil.specs.Words.{state_from}
+use Rattle.yavdocsil.specs.Called.{words_after, success}
+use Rattle.yavdocsil.proofs.SmallValues.{Small, build-small}
+use Rattle.yavdocsil.proofs.Calling.{short-answer, short-leaves, short-refused, short-no-state}
+use Rattle.yavdocsil.proofs.Calling.{called-answer, called-leaves, carried, carried-number}
+use Rattle.yavdocsil.proofs.build.yav_build.Goals as goal
+
+pub returns-then-words-lt-WORDS : goal.returns-then-words-lt-WORDS
+returns-then-words-lt-WORDS c =
+    let r = c.answer_word in
+    let i = c.if-words-lt-WORDS in
+    let a = c.args in
+    let short = short-leaves a.words.now i.true in record {
+      answer = short-answer a.words.now i.true _ r.result r.ensures;
+      words = short _ _;
+      work = short _ _;
+      roots = short _ _;
+      cells = short _ _;
+      built = short-refused a.words.now i.true r.result r.ensures;
+      fit = λ e. short-no-state a.words.now i.true e;
+    }
+
+pub settle-requires : goal.settle-requires
+settle-requires c =
+    let k = c.build-outcome in
+    let s = c.read_state in
+    let i = c.if-words-lt-WORDS in
+    let a = c.args in (
+      i.false,
+      subst (λ (o : Outcome). Small o.answer) (sym k.ensures.outcome)
+          (build-small s.result a.values.now a.care.now a.work.now a.roots.now a.cells.now),
+    )
+
+pub returns : goal.returns
+returns c =
+    let r = c.settle in
+    let k = c.build-outcome in
+    let s = c.read_state in
+    let i = c.if-words-lt-WORDS in
+    let a = c.args in
+    let leaves-as = called-leaves a.words.now i.false s.result s.ensures in
+    let vs = a.values.now in
+    let cs = a.care.now in
+    let roots = k.new.roots in
+    let cells = k.new.cells in
+    let small : Small k.result.answer =
+    subst (λ (o : Outcome). Small o.answer) (sym k.ensures.outcome)
+    (build-small s.result vs cs a.work.now a.roots.now a.cells.now) in
+    let fit =
+    carried-number s.result (state_from a.words.now) s.ensures k.result.answer r.result 23 r.ensures.answer small
+    (λ t. reaches_board t vs cs a.work.now a.roots.now)
+    (λ t. NoneFits true (held_table t vs cs) (order_of t) (capacity a.cells.now)) in record {
+      answer = called-answer a.words.now i.false s.result s.ensures _ r.result k.result.answer r.ensures.answer
+          (ap (λ (o : Outcome). o.answer) k.ensures.outcome);
+      words = leaves-as _ _ _ (r.ensures.words ∙ ap (λ (o : Outcome). words_after o a.words.now) k.ensures.outcome);
+      work = leaves-as _ _ _ k.ensures.work;
+      roots = leaves-as _ _ _ k.ensures.roots;
+      cells = leaves-as _ _ _ k.ensures.cells;
+      built = λ h. carried s.result (state_from a.words.now) s.ensures k.result (success r.result _)
+          (r.ensures.success h) refl
+          (λ t o. Built t vs cs o (lent_diagram o.state.count t.m cells roots) (capacity cells))
+          k.ensures.built;
+      fit = λ _. fit k.ensures.fit;
+    }

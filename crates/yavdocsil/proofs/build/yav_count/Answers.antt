@@ -1,0 +1,36 @@
+-- `yavdocsil::build::yav_count` meets its contract: 10 for a short state, else what `count` answers and leaves.
+-- Assumes nothing.
+use borrow.Author.Rules.{rules}
+use mathlib.Core.Path.{sym, subst}
+use Rattle.yavdocsil.proofs.SmallValues.{Small, count_small}
+use Rattle.yavdocsil.proofs.Calling.{short-answer, short-leaves, called-answer, called-leaves}
+use Rattle.yavdocsil.proofs.build.yav_count.Goals as goal
+
+pub returns-then-words-lt-WORDS : goal.returns-then-words-lt-WORDS
+returns-then-words-lt-WORDS c =
+    let r = c.answer_word in
+    let i = c.if-words-lt-WORDS in
+    let a = c.args in
+    let short = short-leaves a.words.now i.true in record {
+      answer = short-answer a.words.now i.true _ r.result r.ensures;
+      work = short _ _;
+    }
+
+pub answer_word-requires-2 : goal.answer_word-requires-2
+answer_word-requires-2 c =
+    let k = c.count in
+    let s = c.read_state in
+    let a = c.args in
+    subst Small (sym k.ensures.answer) (count_small s.result a.values.now a.care.now a.work.now)
+
+pub returns : goal.returns
+returns c =
+    let r = c.answer_word-2 in
+    let k = c.count in
+    let s = c.read_state in
+    let i = c.if-words-lt-WORDS in
+    let a = c.args in
+    let leaves-as = called-leaves a.words.now i.false s.result s.ensures in record {
+      answer = called-answer a.words.now i.false s.result s.ensures _ r.result k.result r.ensures k.ensures.answer;
+      work = leaves-as _ _ _ k.ensures.work;
+    }

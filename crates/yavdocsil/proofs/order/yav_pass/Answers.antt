@@ -1,0 +1,51 @@
+-- `yavdocsil::order::yav_pass` meets its contract: what `pass` owes of its outcome is carried to the answer and the words.
+-- Assumes nothing.
+use borrow.Author.Rules.{rules}
+use mathlib.Core.Path.{refl, sym, ap, ◌∙◌, subst}
+use Rattle.table.specs.declared.Outcome.{Outcome}
+use Rattle.sift.specs.Calls.{PassDemand}
+use Rattle.yavdocsil.specs.Words.{state_from}
+use Rattle.yavdocsil.specs.Called.{words_after, success}
+use Rattle.yavdocsil.proofs.SmallValues.{Small, pass-small}
+use Rattle.yavdocsil.proofs.Calling.{short-answer, short-leaves, short-refused, called-answer, called-leaves, carried}
+use Rattle.yavdocsil.proofs.order.yav_pass.Goals as goal
+
+pub returns-then-words-lt-WORDS : goal.returns-then-words-lt-WORDS
+returns-then-words-lt-WORDS c =
+    let r = c.answer_word in
+    let i = c.if-words-lt-WORDS in
+    let a = c.args in
+    let short = short-leaves a.words.now i.true in record {
+      answer = short-answer a.words.now i.true _ r.result r.ensures;
+      words = short _ _;
+      work = short _ _;
+      demand = short-refused a.words.now i.true r.result r.ensures;
+    }
+
+pub settle-requires : goal.settle-requires
+settle-requires c =
+    let k = c.pass-outcome in
+    let s = c.read_state in
+    let i = c.if-words-lt-WORDS in
+    let a = c.args in
+    let f = c.ranges in (
+      i.false,
+      subst (λ (o : Outcome). Small o.answer) (sym k.ensures.outcome)
+          (pass-small s.result a.values.now a.care.now a.work.now a.limit f.limit.fits),
+    )
+
+pub returns : goal.returns
+returns c =
+    let r = c.settle in
+    let k = c.pass-outcome in
+    let s = c.read_state in
+    let i = c.if-words-lt-WORDS in
+    let a = c.args in
+    let leaves-as = called-leaves a.words.now i.false s.result s.ensures in record {
+      answer = called-answer a.words.now i.false s.result s.ensures _ r.result k.result.answer r.ensures.answer
+          (ap (λ (o : Outcome). o.answer) k.ensures.outcome);
+      words = leaves-as _ _ _ (r.ensures.words ∙ ap (λ (o : Outcome). words_after o a.words.now) k.ensures.outcome);
+      work = leaves-as _ _ _ k.ensures.work;
+      demand = λ h. carried s.result (state_from a.words.now) s.ensures k.result (success r.result _) (r.ensures.success h) refl
+          (λ t o. PassDemand t a.limit a.values.now a.care.now o) k.ensures.demand;
+    }
