@@ -58,17 +58,11 @@ pass_outcome s limit values care work =
 unfoldable pub pass_work : State → ℕ → List ℕ → List ℕ → List ℕ → List ℕ
 pass_work s limit values care work = cond (done (pass_answer s limit values care work)) (zero_work work) work
 
--- 'An order's cost is section 4's count for the lent table filled afresh under it': that of a state's order
-abbrev pub order_cost : State → List ℕ → List ℕ → ℕ
-order_cost s values care = cost (held_table s values care) (order_of s)
-
--- what a single sift that is done owes, of the order it leaves and the value it answers
-pub record SiftDemand (s : State) (v : ℕ) (values care : List ℕ) (r : Outcome) : Type 0 where
-  -- demand 3: 'for every order that differs only in the place of the input just sifted, the others in sequence, every diagram that uses it
-  -- and computes its filled table has at least as many cells as the cost of the order left'
-  pub least : SiftedLeast (held_table r.state values care) v (order_of r.state) (value r.answer)
-  -- it never ends with more cells than the order found takes (document 02, 2.10)
-  pub no-dearer : value r.answer ≤ order_cost s values care
+-- demand 3 after a single sift that is done, of the order it leaves and the value it answers: 'for every order that differs only in
+-- the place of the input just sifted, the others in sequence, every diagram that uses it and computes its filled table has at least
+-- as many cells as the cost of the order left'
+unfoldable pub SiftDemand : ℕ → List ℕ → List ℕ → Outcome → Type 0
+SiftDemand v values care r = SiftedLeast (held_table r.state values care) v (order_of r.state) (value r.answer)
 
 -- the variable that the k-th sift of a pass sifts, k from 1: the one that came next after the sifts before it
 abbrev pub sifted_at : State → ℕ → List ℕ → List ℕ → ℕ
@@ -85,7 +79,18 @@ pub record PassDemand (s : State) (limit : ℕ) (values care : List ℕ) (r : Ou
   -- so it holds of the very order left, where any was sifted
   pub last : 0 < allowed s.n limit
       → SiftedLeast (held_table r.state values care) (sifted_at s (allowed s.n limit) values care) (order_of r.state)
-      (order_cost r.state values care)
+      (cost (held_table r.state values care) (order_of r.state))
+
+-- 'An order's cost is section 4's count for the lent table filled afresh under it': that of a state's order
+abbrev pub order_cost : State → List ℕ → List ℕ → ℕ
+order_cost s values care = cost (held_table s values care) (order_of s)
+
+-- what a single sift that is done owes besides: it never ends with more cells than the order found takes (document 02, 2.10)
+abbrev pub SiftNeverDearer : State → List ℕ → List ℕ → Outcome → Type 0
+SiftNeverDearer s values care r = value r.answer ≤ order_cost s values care
+
+-- what a pass that is done owes besides
+pub record PassNeverDearer (s : State) (limit : ℕ) (values care : List ℕ) (r : Outcome) : Type 0 where
   -- 'a pass with a larger limit never ends with more cells than the same pass with a smaller one' (document 02, 2.10)
   pub fewer : (smaller : ℕ) → smaller ≤ limit
       → order_cost r.state values care ≤ cost (held_table s values care) (pass_of s smaller values care).order

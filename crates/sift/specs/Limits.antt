@@ -1,5 +1,5 @@
 -- Document 02, 2.10, of two passes that differ in the limit alone: 'a pass with a larger limit never ends with more cells than the same pass
--- with a smaller one'. What a single pass or sift owes of it is in PassDemand and SiftDemand.
+-- with a smaller one'. What a single pass or sift owes of it is in PassNeverDearer and SiftNeverDearer.
 -- Assumes nothing.
 use Rattle.std.specs.Prelude.{List, ℕ, ◌≤◌}
 use Rattle.table.specs.declared.State.{State}

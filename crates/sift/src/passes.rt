@@ -4,7 +4,7 @@ ghost use Rattle.table.specs.Answer.{done};
 ghost use Rattle.table.specs.State.{good_heading, stage_of, is_nothing};
 ghost use Rattle.fill.specs.Work.{trials_zero, zero_work};
 ghost use Rattle.fill.specs.Calls.{held_table, enough};
-ghost use Rattle.sift.specs.Calls.{pass_of, pass_outcome, pass_work, PassDemand};
+ghost use Rattle.sift.specs.Calls.{pass_of, pass_outcome, pass_work, PassDemand, PassNeverDearer};
 ghost use Rattle.sift.specs.Inner.Counts.{counts_under};
 ghost use Rattle.sift.specs.Inner.Turns.{progress_of, turn_of};
 
@@ -88,6 +88,7 @@ pub fn pass(state: State, limit: u32, values: &[u8], care: &[u8], work: &mut [u8
     ensures outcome { result ≡ pass_outcome state limit values.now care.now work.old }
     ensures work { work.new ≡ pass_work state limit values.now care.now work.old }
     ensures demand { done result.answer ≡ true → PassDemand state limit values.now care.now result }
+    ensures never_dearer { done result.answer ≡ true → PassNeverDearer state limit values.now care.now result }
 {
     if !lent_enough(values.len(), care.len(), work.len()) {
         return Outcome {

@@ -1,7 +1,7 @@
 // The sift of a single variable (document 01, section 5).
 ghost use Rattle.std.specs.Prelude.{◌≡◌, true};
 ghost use Rattle.table.specs.Answer.{done};
-ghost use Rattle.sift.specs.Calls.{sift_outcome, sift_work, SiftDemand};
+ghost use Rattle.sift.specs.Calls.{sift_outcome, sift_work, SiftDemand, SiftNeverDearer};
 
 use crate::order::moved_to;
 use crate::room::lent_enough;
@@ -13,7 +13,8 @@ use table::{Answer, Outcome, State};
 pub fn sift(state: State, variable: usize, values: &[u8], care: &[u8], work: &mut [u8]) -> Outcome
     ensures outcome { result ≡ sift_outcome state variable values.now care.now work.old }
     ensures work { work.new ≡ sift_work state variable values.now care.now work.old }
-    ensures demand { done result.answer ≡ true → SiftDemand state variable values.now care.now result }
+    ensures demand { done result.answer ≡ true → SiftDemand variable values.now care.now result }
+    ensures never_dearer { done result.answer ≡ true → SiftNeverDearer state values.now care.now result }
 {
     if !lent_enough(values.len(), care.len(), work.len()) {
         return Outcome {

@@ -14,8 +14,8 @@ use Rattle.lists.proofs.Bits.Digits.{number_lt, bit-number}
 use Rattle.lists.proofs.Numbers.UpTo.{get_or-map-up_to, length-map-up_to}
 use Rattle.diagram.specs.Networks.Bound.{most_variables, most_outputs}
 use Rattle.block.specs.Bits.{stream_bit}
-use Rattle.block.specs.Numbers.{are_bytes}
 use Rattle.table.specs.Calls.{plane_size}
+use Rattle.starred.specs.Lendable.{is_bytes}
 
 -- byte k: its highest bit is bit 8k + 7 of the stream
 abbrev byte_of : (ℕ → Bool) → ℕ → ℕ
@@ -37,11 +37,11 @@ plane-bit f i h =
     ∙ bit-number 8 (λ v. f (8 * (i / 8) + (7 - v))) (7 - i % 8) (omega arith)
     ∙ ap f k
 
-bytes-map : (f : ℕ → ℕ) → ((k : ℕ) → f k < 256) → (xs : List ℕ) → T (are_bytes (map f xs))
+bytes-map : (f : ℕ → ℕ) → ((k : ℕ) → f k < 256) → (xs : List ℕ) → T (is_bytes (map f xs))
 bytes-map f h [] = tt
-bytes-map f h (x ∷ xs) = and_T (ltb (f x) 256) (are_bytes (map f xs)) (lt→ltb (f x) 256 (h x)) (bytes-map f h xs)
+bytes-map f h (x ∷ xs) = and_T (ltb (f x) 256) (is_bytes (map f xs)) (lt→ltb (f x) 256 (h x)) (bytes-map f h xs)
 
-pub plane-bytes : (f : ℕ → Bool) → T (are_bytes (plane f))
+pub plane-bytes : (f : ℕ → Bool) → T (is_bytes (plane f))
 plane-bytes f = bytes-map (byte_of f) (λ k. number_lt 8 (λ v. f (8 * k + (7 - v)))) (up_to plane_size)
 
 -- zeros
@@ -52,6 +52,6 @@ zeros k = replicate k 0
 pub zeros-length : (k : ℕ) → length (zeros k) ≡ k
 zeros-length k = length-replicate k 0
 
-pub zeros-bytes : (k : ℕ) → T (are_bytes (zeros k))
+pub zeros-bytes : (k : ℕ) → T (is_bytes (zeros k))
 zeros-bytes zero = tt
 zeros-bytes (suc k) = zeros-bytes k

@@ -1,13 +1,17 @@
 -- That the claims of section 9 of document 01 say something of the calls: a caller can lend their tables.
 -- Assumes nothing.
-use Rattle.std.specs.Prelude.{◌≡◌, List, ℕ, ◌<◌, T, length}
+use Rattle.std.specs.Prelude.{◌≡◌, Bool, List, ℕ, ◌<◌, T, ltb, length}
+use Rattle.lists.specs.Lists.{all}
 use Rattle.diagram.specs.Networks.Bound.{most_variables}
 use Rattle.diagram.specs.Table.{Table}
 use Rattle.diagram.specs.Starred.{Claim, builds, costs, sifts, fits}
-use Rattle.block.specs.Numbers.{are_bytes}
 use Rattle.table.specs.declared.State.{State}
 use Rattle.fill.specs.Calls.{enough}
 use Rattle.starred.specs.Shown.{Holds}
+
+-- every number of a list is a byte
+abbrev pub is_bytes : List ℕ → Bool
+is_bytes xs = all (λ b. ltb b 256) xs
 
 -- a state with an order entry for each level there can be, and slices of bytes, long enough, that hold a table under an order; any roots
 -- and cells do
@@ -18,9 +22,9 @@ pub record Lendable (t : Table) (order : List ℕ) : Type 0 where
   pub work : List ℕ
   pub holds : Holds t order state values care
   pub entries : length state.order ≡ most_variables
-  pub value_bytes : T (are_bytes values)
-  pub care_bytes : T (are_bytes care)
-  pub work_bytes : T (are_bytes work)
+  pub value_bytes : T (is_bytes values)
+  pub care_bytes : T (is_bytes care)
+  pub work_bytes : T (is_bytes work)
   pub long : T (enough values care work)
 
 -- a claim whose table can be lent under its order, and whose sifted input is one of the table's

@@ -1,7 +1,7 @@
 // Changing the order of the variables, for other languages: swapping two levels, sifting one variable, and a pass over all.
 ghost use Rattle.std.specs.Prelude.{◌≡◌, ◌<◌};
 ghost use Rattle.table.specs.Calls.{swap_outcome};
-ghost use Rattle.sift.specs.Calls.{sift_outcome, sift_work, SiftDemand, pass_outcome, pass_work, PassDemand};
+ghost use Rattle.sift.specs.Calls.{sift_outcome, sift_work, SiftDemand, SiftNeverDearer, pass_outcome, pass_work, PassDemand, PassNeverDearer};
 ghost use Rattle.yavdocsil.specs.Words.{value_limit, state_from};
 ghost use Rattle.yavdocsil.specs.Called.{answer_to, leaves, words_after, success};
 
@@ -44,8 +44,9 @@ pub extern "C" fn yav_sift(
     ensures work { work.new
         ≡ leaves words.old (λ s. sift_work s variable values.now care.now work.old)
         work.old }
-    ensures demand { result < value_limit
-        → SiftDemand (state_from words.old) variable values.now care.now (success result words.new) }
+    ensures demand { result < value_limit → SiftDemand variable values.now care.now (success result words.new) }
+    ensures never_dearer { result < value_limit
+        → SiftNeverDearer (state_from words.old) values.now care.now (success result words.new) }
 {
     if words.len() < WORDS {
         return answer_word(Answer::ShortBuffer);
@@ -74,6 +75,8 @@ pub extern "C" fn yav_pass(
         work.old }
     ensures demand { result < value_limit
         → PassDemand (state_from words.old) limit values.now care.now (success result words.new) }
+    ensures never_dearer { result < value_limit
+        → PassNeverDearer (state_from words.old) limit values.now care.now (success result words.new) }
 {
     if words.len() < WORDS {
         return answer_word(Answer::ShortBuffer);

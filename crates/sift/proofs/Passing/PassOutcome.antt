@@ -24,7 +24,7 @@ use Rattle.table.proofs.Held.{held-heading, heading-order}
 use Rattle.fill.specs.Work.{zero_work}
 use Rattle.fill.specs.Calls.{held_table, enough}
 use Rattle.sift.specs.declared.passes.Progress.{Progress}
-use Rattle.sift.specs.Calls.{pass_of, pass_answer, pass_outcome, pass_work, PassDemand, sifted_at, with_order}
+use Rattle.sift.specs.Calls.{pass_of, pass_answer, pass_outcome, pass_work, PassDemand, PassNeverDearer, sifted_at, with_order}
 use Rattle.sift.specs.Inner.Turns.{progress_of}
 use Rattle.sift.proofs.Trying.ReorderedHeading.{take-order}
 
@@ -32,7 +32,8 @@ use Rattle.sift.proofs.Trying.ReorderedHeading.{take-order}
 abbrev pub Passes : State → ℕ → List ℕ → List ℕ → List ℕ → Outcome → List ℕ → Type 0
 Passes s limit values care work r after =
     (r ≡ pass_outcome s limit values care work)
-    × ((after ≡ pass_work s limit values care work) × (done r.answer ≡ true → PassDemand s limit values care r))
+    × ((after ≡ pass_work s limit values care work) × ((done r.answer ≡ true → PassDemand s limit values care r)
+    × (done r.answer ≡ true → PassNeverDearer s limit values care r)))
 
 -- demand 3 at the k-th turn, k from 1
 at_turn : (t : Table) (order : List ℕ) (k : ℕ) → 0 < k → k ≤ t.n
@@ -46,12 +47,12 @@ at_turn t order k some few =
 module _ (s : State) (limit : ℕ) (values care work : List ℕ) where
   pub pass-short : enough values care work ≡ false → Passes s limit values care work (record { answer = ShortBuffer; state = s }) work
   unfolding pass_answer pass_outcome pass_work
-  pass-short e = (rw e, (rw e, λ d. absurd-T (to-T d) refl))
+  pass-short e = (rw e, (rw e, (λ d. absurd-T (to-T d) refl, λ d. absurd-T (to-T d) refl)))
 
   pub pass-no-table : enough values care work ≡ true → not (is_nothing (stage_of s)) ≡ false
       → Passes s limit values care work (record { answer = NoTable; state = s }) work
   unfolding pass_answer pass_outcome pass_work
-  pass-no-table e h = (rw (e, h), (rw (e, h), λ d. absurd-T (to-T d) refl))
+  pass-no-table e h = (rw (e, h), (rw (e, h), (λ d. absurd-T (to-T d) refl, λ d. absurd-T (to-T d) refl)))
 
   module _ (e : enough values care work ≡ true) (h : not (is_nothing (stage_of s)) ≡ true) where
     passed_outcome : Outcome
@@ -73,7 +74,7 @@ module _ (s : State) (limit : ℕ) (values care work : List ℕ) where
     order-left = as_passed ∙ ap (λ (q : Pass). q.order) (limits (held_table s values care) limit (order_of s))
 
     demand : PassDemand s limit values care passed_outcome
-    unfolding passed_outcome LargerLimit PassNoDearer
+    unfolding passed_outcome
     demand =
         let t : Table = held_table s values care in
         let k : ℕ = allowed s.n limit in
@@ -84,6 +85,13 @@ module _ (s : State) (limit : ℕ) (values care work : List ℕ) where
           last =
               λ some. subst (λ (order : List ℕ). SiftedLeast t (sifted_at s k values care) order (cost t order)) (sym order-left)
               (at_turn t (order_of s) k some (allowed-le s.n limit));
+        }
+
+    never-dearer : PassNeverDearer s limit values care passed_outcome
+    unfolding passed_outcome LargerLimit PassNoDearer
+    never-dearer =
+        let t : Table = held_table s values care in
+        record {
           fewer =
               λ smaller h. subst (λ (order : List ℕ). cost t order ≤ cost t (pass_of s smaller values care).order) (sym as_passed)
               (larger-limit t smaller limit (order_of s) valid h);
@@ -92,7 +100,7 @@ module _ (s : State) (limit : ℕ) (values care work : List ℕ) where
 
     pass-whole : Passes s limit values care work passed_outcome (zero_work work)
     unfolding pass_answer pass_outcome pass_work passed_outcome
-    pass-whole = (rw (e, h), (rw (e, h), λ _. demand))
+    pass-whole = (rw (e, h), (rw (e, h), (λ _. demand, λ _. never-dearer)))
 
     -- as the pass was held at its end
     pub pass-held : (p : Progress) → p ≡ progress_of s values care (pass_of s limit values care) → (left : State)

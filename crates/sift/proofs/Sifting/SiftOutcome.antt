@@ -26,7 +26,7 @@ use Rattle.fill.specs.Work.{zero_work}
 use Rattle.fill.specs.Calls.{held_table, enough}
 use Rattle.sift.specs.declared.trials.Best.{Best}
 use Rattle.sift.specs.Inner.Trials.{best_of}
-use Rattle.sift.specs.Calls.{sifted_order, sift_answer, sift_outcome, sift_work, SiftDemand, with_order}
+use Rattle.sift.specs.Calls.{sifted_order, sift_answer, sift_outcome, sift_work, SiftDemand, SiftNeverDearer, with_order}
 use Rattle.sift.proofs.Trying.ReorderedHeading.{take-order}
 use Rattle.sift.proofs.Trying.SiftedCounts.{best-sifts}
 
@@ -34,22 +34,23 @@ use Rattle.sift.proofs.Trying.SiftedCounts.{best-sifts}
 abbrev pub Sifts : State → ℕ → List ℕ → List ℕ → List ℕ → Outcome → List ℕ → Type 0
 Sifts s v values care work r after =
     (r ≡ sift_outcome s v values care work)
-    × ((after ≡ sift_work s v values care work) × (done r.answer ≡ true → SiftDemand s v values care r))
+    × ((after ≡ sift_work s v values care work) × ((done r.answer ≡ true → SiftDemand v values care r)
+    × (done r.answer ≡ true → SiftNeverDearer s values care r)))
 
 module _ (s : State) (v : ℕ) (values care work : List ℕ) where
   pub sift-short : enough values care work ≡ false → Sifts s v values care work (record { answer = ShortBuffer; state = s }) work
   unfolding sift_answer sift_outcome sift_work
-  sift-short e = (rw e, (rw e, λ d. absurd-T (to-T d) refl))
+  sift-short e = (rw e, (rw e, (λ d. absurd-T (to-T d) refl, λ d. absurd-T (to-T d) refl)))
 
   pub sift-no-table : enough values care work ≡ true → not (is_nothing (stage_of s)) ≡ false
       → Sifts s v values care work (record { answer = NoTable; state = s }) work
   unfolding sift_answer sift_outcome sift_work
-  sift-no-table e h = (rw (e, h), (rw (e, h), λ d. absurd-T (to-T d) refl))
+  sift-no-table e h = (rw (e, h), (rw (e, h), (λ d. absurd-T (to-T d) refl, λ d. absurd-T (to-T d) refl)))
 
   module _ (e : enough values care work ≡ true) (h : not (is_nothing (stage_of s)) ≡ true) where
     pub sift-no-variable : s.n ≤ v → Sifts s v values care work (record { answer = NoSuch; state = s }) work
     unfolding sift_answer sift_outcome sift_work
-    sift-no-variable l = (rw (e, h, le-ltb v s.n l), (rw (e, h, le-ltb v s.n l), λ d. absurd-T (to-T d) refl))
+    sift-no-variable l = (rw (e, h, le-ltb v s.n l), (rw (e, h, le-ltb v s.n l), (λ d. absurd-T (to-T d) refl, λ d. absurd-T (to-T d) refl)))
 
     sifted_outcome : Outcome
     sifted_outcome =
@@ -65,20 +66,21 @@ module _ (s : State) (v : ℕ) (values care work : List ℕ) where
           let o = heading-order s.n s.m (order_of s) (held-heading s (to-T h)) in
           take-order s.n (sifted_order s v values care) s.order _ (sift-order (held_table s values care) v (order_of s) o l) refl
 
-      demand : SiftDemand s v values care sifted_outcome
-      unfolding sifted_outcome SiftNoDearer
+      demand : SiftDemand v values care sifted_outcome
+      unfolding SiftDemand sifted_outcome
       demand =
           let t : Table = held_table s values care in
-          record {
-            least =
-                subst (λ (order : List ℕ). SiftedLeast t v order (cost t (sifted_order s v values care))) (sym order-left)
-                (sifted t v (order_of s) l);
-            no-dearer = sift-no-dearer t v (order_of s) (heading-order s.n s.m (order_of s) (held-heading s (to-T h))) l;
-          }
+          subst (λ (order : List ℕ). SiftedLeast t v order (cost t (sifted_order s v values care))) (sym order-left)
+          (sifted t v (order_of s) l)
+
+      never-dearer : SiftNeverDearer s values care sifted_outcome
+      unfolding sifted_outcome SiftNoDearer
+      never-dearer =
+          sift-no-dearer (held_table s values care) v (order_of s) (heading-order s.n s.m (order_of s) (held-heading s (to-T h))) l
 
       sift-whole : Sifts s v values care work sifted_outcome (zero_work work)
       unfolding sift_answer sift_outcome sift_work sifted_outcome
-      sift-whole = (rw (e, h, lt-ltb v s.n l), (rw (e, h, lt-ltb v s.n l), λ _. demand))
+      sift-whole = (rw (e, h, lt-ltb v s.n l), (rw (e, h, lt-ltb v s.n l), (λ _. demand, λ _. never-dearer)))
 
       -- as the best level was found, and the order made with v there
       module _ (b : Best) (d : b ≡ best_of (held_table s values care) v (order_of s)) where

@@ -23,7 +23,7 @@ returns-then-not-lent_enough c =
     let a = c.args in
     let vs = a.values.now in
     let cs = a.care.now in
-    let m = c.lent_enough in let all = sift-short a.state a.variable vs cs a.work.now (sym m.ensures ∙ not-true m.result c.if-not-lent_enough.true-raw) in record { outcome = all.0; work = all.1.0; demand = all.1.1 }
+    let m = c.lent_enough in let all = sift-short a.state a.variable vs cs a.work.now (sym m.ensures ∙ not-true m.result c.if-not-lent_enough.true-raw) in record { outcome = all.0; work = all.1.0; demand = all.1.1.0; never_dearer = all.1.1.1 }
 
 pub returns-then-not-holds_table : goal.returns-then-not-holds_table
 returns-then-not-holds_table c =
@@ -32,7 +32,7 @@ returns-then-not-holds_table c =
     let cs = a.care.now in
     let m = c.lent_enough in
     let h = c.holds_table in let all = sift-no-table a.state a.variable vs cs a.work.now (sym m.ensures ∙ not-false m.result c.if-not-lent_enough.false-raw)
-    (sym h.ensures ∙ not-true h.result c.if-not-holds_table.true-raw) in record { outcome = all.0; work = all.1.0; demand = all.1.1 }
+    (sym h.ensures ∙ not-true h.result c.if-not-holds_table.true-raw) in record { outcome = all.0; work = all.1.0; demand = all.1.1.0; never_dearer = all.1.1.1 }
 
 pub returns-then-n-variable : goal.returns-then-n-variable
 returns-then-n-variable c =
@@ -42,7 +42,7 @@ returns-then-n-variable c =
     let m = c.lent_enough in
     let h = c.holds_table in let all = sift-no-variable a.state a.variable vs cs a.work.now
     (sym m.ensures ∙ not-false m.result c.if-not-lent_enough.false-raw)
-    (sym h.ensures ∙ not-false h.result c.if-not-holds_table.false-raw) c.if-n-variable.true in record { outcome = all.0; work = all.1.0; demand = all.1.1 }
+    (sym h.ensures ∙ not-false h.result c.if-not-holds_table.false-raw) c.if-n-variable.true in record { outcome = all.0; work = all.1.0; demand = all.1.1.0; never_dearer = all.1.1.1 }
 
 long : (k : After-count_levels-levels) → let a = k.args in T (enough a.values.now a.care.now a.work.now)
 long k =
@@ -93,4 +93,4 @@ returns c =
     (sifted-best (held_table a.state vs cs) a.variable (order_of a.state) r.result r.ensures.sifted) o.result o.ensures
     c.reorder-left.result c.reorder-left.ensures r.new.work
     (zero-still a.work.now c.count_levels-levels.new.work r.new.work
-    (c.count_levels-levels.ensures.work ∙ counted-work a.state vs cs a.work.now (long (goal.at.returns c).After-count_levels-levels) (held (goal.at.returns c).After-count_levels-levels)) r.ensures.work) in record { outcome = all.0; work = all.1.0; demand = all.1.1 }
+    (c.count_levels-levels.ensures.work ∙ counted-work a.state vs cs a.work.now (long (goal.at.returns c).After-count_levels-levels) (held (goal.at.returns c).After-count_levels-levels)) r.ensures.work) in record { outcome = all.0; work = all.1.0; demand = all.1.1.0; never_dearer = all.1.1.1 }

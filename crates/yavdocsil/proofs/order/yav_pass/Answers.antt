@@ -3,7 +3,7 @@
 use borrow.Author.Rules.{rules}
 use mathlib.Core.Path.{refl, sym, ap, ◌∙◌, subst}
 use Rattle.table.specs.declared.Outcome.{Outcome}
-use Rattle.sift.specs.Calls.{PassDemand}
+use Rattle.sift.specs.Calls.{PassDemand, PassNeverDearer}
 use Rattle.yavdocsil.specs.Words.{state_from}
 use Rattle.yavdocsil.specs.Called.{words_after, success}
 use Rattle.yavdocsil.proofs.SmallValues.{Small, pass-small}
@@ -20,6 +20,7 @@ returns-then-words-lt-WORDS c =
       words = short _ _;
       work = short _ _;
       demand = short-refused a.words.now i.true r.result r.ensures;
+      never_dearer = short-refused a.words.now i.true r.result r.ensures;
     }
 
 pub settle-requires : goal.settle-requires
@@ -48,4 +49,6 @@ returns c =
       work = leaves-as _ _ _ k.ensures.work;
       demand = λ h. carried s.result (state_from a.words.now) s.ensures k.result (success r.result _) (r.ensures.success h) refl
           (λ t o. PassDemand t a.limit a.values.now a.care.now o) k.ensures.demand;
+      never_dearer = λ h. carried s.result (state_from a.words.now) s.ensures k.result (success r.result _) (r.ensures.success h) refl
+          (λ t o. PassNeverDearer t a.limit a.values.now a.care.now o) k.ensures.never_dearer;
     }
