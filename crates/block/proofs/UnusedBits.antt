@@ -12,7 +12,7 @@ use lib.Dec.{T, eqb, leb, eqb→eq, leb→le, le→leb}
 use lib.Pow.{pow_mono, pow_pos, shr_lt}
 use lib.Pow as Pow
 use Rattle.lists.specs.Lists.{all, up_to}
-use Rattle.lists.proofs.Bools.{split, to-T, absurd-T, both_ways}
+use Rattle.lists.proofs.Bools.{to-T, absurd-T, both_ways}
 use Rattle.lists.proofs.Numbers.Compared.{all-up_to-at, all-up_to-of}
 use Rattle.lists.proofs.Numbers.Below.{all_more, all_same}
 use Rattle.block.specs.Block.{content_at, content_size, content_bits, byte, content_bit, unused_bits_zero}

@@ -9,7 +9,7 @@ use lib.Dec.{T, eqb}
 use Rattle.lists.specs.Lists.{index}
 use Rattle.diagram.specs.Orders.Order.{is_order}
 use Rattle.diagram.specs.Table.{Table, cost}
-use Rattle.diagram.specs.Orders.Sift.{Pass, sift, next, turn, pass, allowed}
+use Rattle.diagram.specs.Orders.Sift.{Pass, sift, next, turn, allowed}
 use Rattle.diagram.specs.Orders.Limits.{SiftNoDearer, PassNoDearer, LargerLimit}
 use Rattle.diagram.proofs.Orders.Order.{order-distinct, every-variable, index_below}
 use Rattle.diagram.proofs.Orders.Moved.{moved-self}

@@ -1,7 +1,7 @@
 -- The network read off the links of the filling, level by level: what a build that never looks at the segments makes of them.
 -- The law `traced` says that it is section 4's network. `lss` are the links of the levels below a level, two an entry.
 -- Assumes nothing.
-use Rattle.std.specs.Prelude.{Bool, true, false, cond, ◌&&◌, List, [], ◌∷◌, ◌++◌, map, ℕ, suc, ◌+◌, eqb, get_or}
+use Rattle.std.specs.Prelude.{Bool, false, cond, ◌&&◌, List, [], ◌∷◌, ◌++◌, map, ℕ, suc, ◌+◌, eqb, get_or}
 use Rattle.std.specs.Bool.{beq}
 use Rattle.lists.specs.Bits.{digit}
 use Rattle.diagram.specs.Filling.Fill.{Link, const, entry}

@@ -1,6 +1,6 @@
 -- What the calls answer and leave, by the test that led there.
 -- Assumes nothing.
-use mathlib.Core.Path.{◌≡◌, refl, sym, ap, ◌∙◌}
+use mathlib.Core.Path.{◌≡◌, refl, ap, ◌∙◌}
 use mathlib.Core.Bool.{Bool, true, false, not, ◌&&◌, false≢true, and-false}
 use mathlib.Core.List.{List}
 use Prim.Native.Nat.{ℕ, ◌*◌, ◌≤◌, ◌<◌}
@@ -19,7 +19,6 @@ use Rattle.table.specs.Calls.{plane_size}
 use Rattle.fill.specs.Work.{work_size, links_at, zero_work, cleared_work}
 use Rattle.fill.specs.Calls.{held_table, enough, count_answer, count_work, levels_of, links_work}
 use Rattle.fill.specs.Inner.Filling.{filled_work, filled_levels, refused_levels}
-use Rattle.fill.proofs.Buffers.Sizes.{sizes}
 use Rattle.fill.proofs.Room.LinksRoom.{links_limit}
 use Rattle.fill.proofs.Calls.HeldFilling.{links-gone}
 

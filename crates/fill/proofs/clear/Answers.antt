@@ -1,5 +1,4 @@
 -- `fill::clear` meets its contract. Assumes nothing.
-use borrow.Author.Rules.{rules}
 use mathlib.Core.Path.{sym}
 use Rattle.fill.proofs.Buffers.Sizes.{work-size, sizes}
 use Rattle.fill.proofs.Buffers.HeldParts.{zero-start}

@@ -1,5 +1,4 @@
 -- `fill::count` meets its contract. Assumes nothing.
-use borrow.Author.Rules.{rules}
 use mathlib.Core.Path.{ap, ◌∙◌}
 use Rattle.fill.specs.declared.Levels.{Levels}
 use Rattle.fill.proofs.Calls.Answers.{levels-answer}

@@ -1,9 +1,8 @@
 -- `fill::count_levels` meets its contract, by the answer's variant. Assumes nothing.
-use borrow.Author.Rules.{rules}
 use mathlib.Core.Path.{◌≡◌, sym, ap, ◌∙◌}
 use mathlib.Core.Bool.{false, true}
 use Rattle.table.specs.Answer.{done}
-use Rattle.table.proofs.Variants.{is-first, is-other}
+use Rattle.table.proofs.Variants.{is-other}
 use Rattle.fill.specs.declared.Levels.{Levels}
 use Rattle.fill.specs.Work.{links_at}
 use Rattle.fill.specs.Calls.{count_answer}

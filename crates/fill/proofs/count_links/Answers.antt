@@ -1,5 +1,4 @@
 -- `fill::count_links` meets its contract, by the laws of links in a work buffer. Assumes nothing.
-use borrow.Author.Rules.{rules}
 use mathlib.Core.Path.{◌≡◌, sym, ap, ◌∙◌}
 use mathlib.Core.Bool.{true}
 use mathlib.Core.List.{sum}

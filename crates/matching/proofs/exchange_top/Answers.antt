@@ -1,5 +1,4 @@
 -- `matching::exchange_top` meets its contract: it refuses, or has what it needs. Assumes nothing.
-use borrow.Author.Rules.{rules}
 use lib.ListN.{length}
 use Rattle.matching.proofs.Buffers.Fitting.{parts-say, refused, passed}
 use Rattle.matching.proofs.exchange_top.Goals as goal

@@ -1,5 +1,4 @@
 -- `matching::link_candidate` meets its contract: it refuses, or has what it needs. Assumes nothing.
-use borrow.Author.Rules.{rules}
 use mathlib.Core.Path.{refl}
 use native.Mathlib.Omega.{arith}
 use lib.ListN.{length}

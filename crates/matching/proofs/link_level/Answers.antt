@@ -1,5 +1,4 @@
 -- `matching::link_level` meets its contract: it refuses, or has what it needs. Assumes nothing.
-use borrow.Author.Rules.{rules}
 use mathlib.Core.Path.{refl}
 use lib.ListN.{length}
 use Rattle.matching.proofs.Buffers.Fitting.{level-says, refused, passed}

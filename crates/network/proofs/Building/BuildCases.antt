@@ -6,8 +6,6 @@ use mathlib.Core.List.{List}
 use mathlib.Core.Logic.{◌↔◌}
 use Prim.Native.Nat.{ℕ, ◌+◌, ◌*◌, ◌-◌, ◌≤◌, ◌<◌}
 use native.Mathlib.Omega.{arith}
-use types.Run.{OneOf}
-use denote.Enum.Declared.{tag_of}
 use lib.Dec.{T}
 use lib.ListN.{length, get_or}
 use Rattle.lists.specs.Sums.{sum_below}
@@ -21,7 +19,6 @@ use Rattle.table.specs.declared.Outcome.{Outcome}
 use Rattle.table.specs.declared.State.{State}
 use Rattle.table.specs.Answer.{done, number}
 use Rattle.table.specs.State.{order_of, stage_of, is_nothing}
-use Rattle.table.specs.contracts.Answer.{the_type}
 use Rattle.table.proofs.Held.{few-inputs, few-outputs}
 use Rattle.table.proofs.Variants.{is-other}
 use Rattle.fill.specs.declared.Levels.{Levels}

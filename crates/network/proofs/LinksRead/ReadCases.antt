@@ -6,8 +6,6 @@ use mathlib.Core.List.{List}
 use Prim.Native.Nat.{ℕ, ◌+◌, ◌*◌, ◌-◌, ◌≤◌, ◌<◌}
 use native.Mathlib.Nat.{zero-add}
 use native.Mathlib.Omega.{arith}
-use types.Run.{OneOf}
-use denote.Enum.Declared.{tag_of}
 use borrow.Author.Tests.{le-leb, lt-leb}
 use lib.Dec.{leb}
 use lib.ListN.{length, get_or}
@@ -19,7 +17,6 @@ use Rattle.diagram.specs.Networks.Bound.{most_variables, most_outputs}
 use Rattle.table.specs.declared.Answer.{Answer}
 use Rattle.table.specs.declared.Answer.TheVariants.{Done, ShortBuffer, TooSmall}
 use Rattle.table.specs.Answer.{unless, unless_refused, done, number, value}
-use Rattle.table.specs.contracts.Answer.{the_type}
 use Rattle.table.proofs.Variants.{is-other}
 use Rattle.fill.specs.declared.Levels.{Levels}
 use Rattle.fill.specs.Work.{work_size, zero_work, cleared_work}

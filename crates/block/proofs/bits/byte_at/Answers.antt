@@ -1,8 +1,5 @@
-use borrow.Author.Rules.{rules}
 use mathlib.Core.Path.{sym}
 use lib.ListN.{get_or-eq_default}
-use Rattle.block.proofs.bits.byte_at.Reads as reads
-use Rattle.block.proofs.bits.byte_at.Lts as lts
 use Rattle.block.proofs.bits.byte_at.Goals as goal
 
 -- src/bits.rt:7:1

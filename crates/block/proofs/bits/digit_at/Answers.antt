@@ -1,6 +1,5 @@
 -- `block::bits::digit_at` meets its contract.
 -- Assumes nothing.
-use borrow.Author.Rules.{rules}
 use native.Mathlib.Omega.{arith}
 use Rattle.lists.proofs.Bits.Masks.{mask_below}
 use Rattle.block.proofs.StreamBits.{bit_shifted}

@@ -1,12 +1,8 @@
 -- `block::bits::first_word` meets its contract. The loop's invariant: the word is that of the first k bytes, and below 2 ^ (8 × k).
 -- Assumes nothing.
-use borrow.Author.Rules.{rules}
-use Prim.Native.Nat.{ℕ, ◌+◌, ◌*◌, ◌-◌, ◌^◌, ◌≤◌, ◌<◌}
-use mathlib.Core.Path.{◌≡◌, ap, ◌∙◌}
+use Prim.Native.Nat.{◌*◌, ◌-◌, ◌^◌, ◌≤◌, ◌<◌}
+use mathlib.Core.Path.{◌≡◌}
 use Rattle.block.specs.Bits.{word_of}
-use native.Mathlib.Omega.{arith}
-use lib.ListN.{get_or}
-use Rattle.block.proofs.Words.{word_more}
 use Rattle.block.proofs.bits.first_word.Given as goal
 
 abbrev pub invariant-loop-k : goal.invariant-loop-k

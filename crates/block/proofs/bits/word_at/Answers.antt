@@ -1,7 +1,6 @@
 -- `block::bits::word_at` meets its contract: the word at the front of the part lent, or 0 past the end.
 -- Assumes nothing.
 use mathlib.Core.Path.{◌∙◌}
-use borrow.Author.Rules.{rules}
 use Rattle.block.proofs.Parts.{part-word, word-past}
 use Rattle.block.proofs.bits.word_at.Goals as goal
 

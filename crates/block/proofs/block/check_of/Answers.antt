@@ -1,9 +1,6 @@
-use mathlib.Core.Path.{◌≡◌, refl}
-use Prim.Native.Nat.{suc, ◌*◌, ◌-◌, ◌≤◌}
+use mathlib.Core.Path.{refl}
 use native.Mathlib.Omega.{arith}
-use Rattle.lists.specs.Sums.{sum_below}
 use Rattle.lists.proofs.Numbers.Sums.{sum_more}
-use Rattle.block.specs.Block.{check_at, byte}
 use Rattle.block.proofs.Check.{check-is}
 use Rattle.block.proofs.block.check_of.Goals as goal
 

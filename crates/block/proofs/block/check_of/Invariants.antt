@@ -1,12 +1,9 @@
 -- `block::block::check_of` meets its contract. The loop's invariant: the total is the sum over the bytes passed, and at most 510 × 255
 -- for each. Assumes nothing.
-use mathlib.Core.Path.{◌≡◌, refl}
+use mathlib.Core.Path.{◌≡◌}
 use Prim.Native.Nat.{suc, ◌*◌, ◌-◌, ◌≤◌}
-use native.Mathlib.Omega.{arith}
 use Rattle.lists.specs.Sums.{sum_below}
-use Rattle.lists.proofs.Numbers.Sums.{sum_more}
 use Rattle.block.specs.Block.{check_at, byte}
-use Rattle.block.proofs.Check.{check-is}
 use Rattle.block.proofs.block.check_of.Given as goal
 
 abbrev pub invariant-loop-i : goal.invariant-loop-i

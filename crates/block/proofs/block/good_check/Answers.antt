@@ -1,6 +1,5 @@
 -- `block::block::good_check` meets its contract.
 -- Assumes nothing.
-use borrow.Author.Rules.{rules}
 use Rattle.block.specs.Block.{good_check}
 use Rattle.block.proofs.block.good_check.Goals as goal
 

@@ -1,6 +1,5 @@
 -- `block::block::good_number` meets its contract, by byte 1 and then by the number.
 -- Assumes nothing.
-use borrow.Author.Rules.{rules}
 use Rattle.block.proofs.Check.{number-second, number_is}
 use Rattle.block.proofs.block.good_number.Goals as goal
 

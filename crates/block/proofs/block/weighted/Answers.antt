@@ -1,6 +1,5 @@
 -- `block::block::weighted` meets its contract.
 -- Assumes nothing.
-use borrow.Author.Rules.{rules}
 use mathlib.Core.Path.{ap₂}
 use Prim.Native.Nat.{◌*◌}
 use native.Mathlib.Numerals.{add-one}

@@ -1,11 +1,6 @@
-use borrow.Author.Rules.{rules}
-use mathlib.Core.Path.{◌≡◌, refl, sym}
-use mathlib.Core.Bool.{true}
-use Prim.Native.Nat.{◌-◌, ◌≤◌}
+use mathlib.Core.Path.{refl, sym}
 use native.Mathlib.Omega.{arith}
-use lib.ListN.{length}
-use Rattle.lists.specs.Lists.{all, up_to}
-use Rattle.block.proofs.Elements.{below, one-beyond, one_below, every-below}
+use Rattle.block.proofs.Elements.{one-beyond, one_below, every-below}
 use Rattle.block.proofs.numbers.all_below.Goals as goal
 
 pub loop-j-init : goal.loop-j-init

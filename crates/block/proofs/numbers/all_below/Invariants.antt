@@ -1,13 +1,11 @@
 -- `block::numbers::all_below` meets its contract: the numbers before number j are below the limit.
 -- Assumes nothing.
-use borrow.Author.Rules.{rules}
-use mathlib.Core.Path.{◌≡◌, refl, sym}
+use mathlib.Core.Path.{◌≡◌}
 use mathlib.Core.Bool.{true}
 use Prim.Native.Nat.{◌-◌, ◌≤◌}
-use native.Mathlib.Omega.{arith}
 use lib.ListN.{length}
 use Rattle.lists.specs.Lists.{all, up_to}
-use Rattle.block.proofs.Elements.{below, one-beyond, one_below, every-below}
+use Rattle.block.proofs.Elements.{below}
 use Rattle.block.proofs.numbers.all_below.Given as goal
 
 abbrev pub invariant-loop-j : goal.invariant-loop-j

@@ -1,17 +1,11 @@
 -- `block::unused::unused_between` meets its contract. The loop's invariant: the bytes passed are zero.
 -- Assumes nothing.
-use mathlib.Core.Path.{◌≡◌, sym, ap, ◌∙◌, subst}
 use mathlib.Core.Bool.{Bool}
 use mathlib.Core.List.{List}
 use Prim.Native.Nat.{ℕ, ◌+◌, ◌-◌, ◌≤◌}
-use borrow.Author.Tests.{eq-eqb, ne_eqb}
-use native.Mathlib.Omega.{arith}
 use lib.Dec.{T, eqb}
 use Rattle.lists.specs.Lists.{all, up_to}
-use Rattle.lists.proofs.Numbers.Compared.{all-up_to-fails}
-use Rattle.lists.proofs.Numbers.Below.{all_end}
-use Rattle.block.specs.Block.{byte, unused_between}
-use Rattle.block.proofs.UnusedBits.{passed-more}
+use Rattle.block.specs.Block.{byte}
 use Rattle.block.proofs.unused.unused_between.Given as goal
 
 abbrev pub is_zero : List ℕ → ℕ → ℕ → ℕ → Bool

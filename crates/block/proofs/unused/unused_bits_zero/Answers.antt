@@ -1,9 +1,6 @@
 use mathlib.Core.Path.{sym, ◌∙◌}
-use Prim.Native.Nat.{◌-◌, ◌≤◌}
 use borrow.Author.Tests.{not-true, not-false}
 use native.Mathlib.Omega.{arith}
-use lib.Dec.{T}
-use Rattle.lists.specs.Lists.{all, up_to}
 use Rattle.lists.proofs.Numbers.Compared.{all-up_to-fails}
 use Rattle.lists.proofs.Numbers.Below.{all_more, all_end}
 use Rattle.block.specs.Block.{content_size}

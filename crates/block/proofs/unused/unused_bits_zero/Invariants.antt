@@ -1,16 +1,10 @@
 -- `block::unused::unused_bits_zero` meets its contract. The loop's invariant: the bytes passed have no unused bit set.
 -- Assumes nothing.
-use mathlib.Core.Path.{sym, ◌∙◌}
 use Prim.Native.Nat.{◌-◌, ◌≤◌}
-use borrow.Author.Tests.{not-true, not-false}
-use native.Mathlib.Omega.{arith}
 use lib.Dec.{T}
 use Rattle.lists.specs.Lists.{all, up_to}
-use Rattle.lists.proofs.Numbers.Compared.{all-up_to-fails}
-use Rattle.lists.proofs.Numbers.Below.{all_more, all_end}
 use Rattle.block.specs.Block.{content_size}
 use Rattle.block.specs.Inner.UnusedByte.{unused_byte_zero}
-use Rattle.block.proofs.UnusedBits.{by_bytes}
 use Rattle.block.proofs.unused.unused_bits_zero.Given as goal
 
 abbrev pub invariant-loop-j : goal.invariant-loop-j

@@ -1,7 +1,6 @@
 -- `block::unused::unused_byte` meets its contract.
 -- Assumes nothing.
 use mathlib.Core.Path.{sym}
-use borrow.Author.Rules.{rules}
 use Rattle.block.proofs.UnusedBits.{byte_inside, byte-outside, byte-shifted}
 use Rattle.block.proofs.unused.unused_byte.Goals as goal
 

@@ -1,6 +1,5 @@
 -- `canonical::held::is_structured` meets its contract: the nodes one by one, then the numbering.
 -- Assumes nothing.
-use borrow.Author.Rules.{rules}
 use mathlib.Core.Path.{sym, ◌∙◌}
 use borrow.Author.Tests.{not-true, not-false}
 use Rattle.canonical.proofs.Structured.{structured-not, structured-rest}

@@ -1,6 +1,5 @@
 -- `canonical::reduced::is_new` meets its contract: by the slot alone where it has no mark.
 -- Assumes nothing.
-use borrow.Author.Rules.{rules}
 use mathlib.Core.Path.{sym}
 use Rattle.canonical.proofs.Nodes.{slot_kept, slot-marked, slot-new, new-not}
 use Rattle.canonical.proofs.reduced.is_new.Goals as goal

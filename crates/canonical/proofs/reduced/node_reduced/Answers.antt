@@ -1,6 +1,5 @@
 -- `canonical::reduced::node_reduced` meets its contract: the low edge, then both.
 -- Assumes nothing.
-use borrow.Author.Rules.{rules}
 use mathlib.Core.Path.{sym}
 use Rattle.canonical.proofs.Nodes.{low-inverts, low-upright}
 use Rattle.canonical.proofs.reduced.node_reduced.Goals as goal

@@ -1,11 +1,8 @@
 use borrow.Author.Rules.{rules}
-use mathlib.Core.Path.{◌≡◌, refl, sym, ◌∙◌}
-use mathlib.Core.Bool.{true}
-use Prim.Native.Nat.{◌≤◌, ◌-◌}
+use mathlib.Core.Path.{refl, sym, ◌∙◌}
 use borrow.Author.Tests.{not-true, not-false}
-use Rattle.lists.specs.Lists.{all, up_to}
 use Rattle.lists.proofs.Numbers.Compared.{all-up_to-more}
-use Rattle.canonical.specs.Inner.Reduced.{is_new, Slotted}
+use Rattle.canonical.specs.Inner.Reduced.{is_new}
 use Rattle.canonical.proofs.Nodes.{reduced_at, slotted-none, slotted-more, redundant, not_new, all-reduced}
 use Rattle.canonical.proofs.reduced.nodes_reduced.Goals as goal
 

@@ -1,14 +1,11 @@
 -- `canonical::reduced::nodes_reduced` meets its contract: the nodes before node i are reduced and new, and their slots are marked.
 -- Assumes nothing.
-use borrow.Author.Rules.{rules}
-use mathlib.Core.Path.{◌≡◌, refl, sym, ◌∙◌}
+use mathlib.Core.Path.{◌≡◌}
 use mathlib.Core.Bool.{true}
 use Prim.Native.Nat.{◌≤◌, ◌-◌}
-use borrow.Author.Tests.{not-true, not-false}
 use Rattle.lists.specs.Lists.{all, up_to}
-use Rattle.lists.proofs.Numbers.Compared.{all-up_to-more}
 use Rattle.canonical.specs.Inner.Reduced.{is_new, Slotted}
-use Rattle.canonical.proofs.Nodes.{reduced_at, slotted-none, slotted-more, redundant, not_new, all-reduced}
+use Rattle.canonical.proofs.Nodes.{reduced_at}
 use Rattle.canonical.proofs.reduced.nodes_reduced.Given as goal
 
 abbrev pub invariant-loop-i : goal.invariant-loop-i

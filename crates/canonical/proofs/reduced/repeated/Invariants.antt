@@ -1,15 +1,12 @@
 -- `canonical::reduced::repeated` meets its contract: none of the nodes before node j is the same as node i.
 -- Assumes nothing.
-use borrow.Author.Rules.{rules}
-use mathlib.Core.Path.{◌≡◌, sym, ap, ◌∙◌}
+use mathlib.Core.Path.{◌≡◌}
 use mathlib.Core.Bool.{false}
-use Prim.Native.Nat.{ℕ, ◌≤◌, ◌-◌}
-use native.Mathlib.Omega.{arith}
+use Prim.Native.Nat.{◌≤◌, ◌-◌}
 use Rattle.lists.specs.Lists.{has}
 use Rattle.diagram.specs.Networks.Diagram.{same_node}
 use Rattle.lent.specs.Lent.{lent_node}
 use Rattle.canonical.specs.Inner.Reduced.{lent_nodes}
-use Rattle.canonical.proofs.Nodes.{repeated-none, repeated-more, repeated-at}
 use Rattle.canonical.proofs.reduced.repeated.Given as goal
 
 abbrev pub invariant-loop-j : goal.invariant-loop-j

@@ -1,6 +1,5 @@
 -- `canonical::reduced::same_node` meets its contract: one number after the other.
 -- Assumes nothing.
-use borrow.Author.Rules.{rules}
 use mathlib.Core.Path.{sym}
 use Rattle.canonical.proofs.Nodes.{levels-differ, lows-differ, highs-left}
 use Rattle.canonical.proofs.reduced.same_node.Goals as goal

@@ -1,6 +1,5 @@
 -- `canonical::reduced::slot_of` meets its contract: the sum of the numbers of 16 bits fits.
 -- Assumes nothing.
-use borrow.Author.Rules.{rules}
 use native.Mathlib.Omega.{arith}
 use Rattle.canonical.proofs.Nodes.{slot-found}
 use Rattle.canonical.proofs.reduced.slot_of.Goals as goal

@@ -1,6 +1,5 @@
 -- `canonical::walk::arrive` meets its contract: by the mark, node k stands in the list or is new, and a new one has room.
 -- Assumes nothing.
-use borrow.Author.Rules.{rules}
 use Rattle.canonical.proofs.Listed.{arrive-again, arrive_room, arrive-new}
 use Rattle.canonical.proofs.walk.arrive.Goals as goal
 

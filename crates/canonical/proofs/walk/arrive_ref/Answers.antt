@@ -1,6 +1,5 @@
 -- `canonical::walk::arrive_ref` meets its contract: a constant is to no node.
 -- Assumes nothing.
-use borrow.Author.Rules.{rules}
 use mathlib.Core.Path.{sym, ap}
 use lib.ListN.{take}
 use Rattle.canonical.specs.Inner.Walk.{arrived_all}

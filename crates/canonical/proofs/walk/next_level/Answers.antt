@@ -1,6 +1,5 @@
 -- `canonical::walk::next_level` meets its contract: the nodes below in the other list, then copied.
 -- Assumes nothing.
-use borrow.Author.Rules.{rules}
 use mathlib.Core.Path.{◌∙◌}
 use Prim.Native.Nat.{◌+◌}
 use native.Mathlib.Omega.{arith}

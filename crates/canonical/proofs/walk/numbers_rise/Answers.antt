@@ -1,6 +1,5 @@
 -- `canonical::walk::numbers_rise` meets its contract: the lists and marks that it lends are zero, a mark for each counted node.
 -- Assumes nothing.
-use borrow.Author.Rules.{rules}
 use mathlib.Core.Path.{sym, ap, ◌∙◌, subst}
 use Prim.Native.Nat.{ℕ, ◌+◌, ◌≤◌, ◌<◌}
 use lib.ListN.{get_or}

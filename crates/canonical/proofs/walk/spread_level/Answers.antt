@@ -1,11 +1,11 @@
 use borrow.Author.Rules.{rules}
 use mathlib.Core.Path.{◌≡◌, refl, sym, ap, subst}
-use Prim.Native.Nat.{ℕ, ◌≤◌, ◌-◌}
+use Prim.Native.Nat.{ℕ}
 use native.Mathlib.Omega.{arith}
 use lib.Dec.{eqb}
 use lib.ListN.{length, take}
 use Rattle.lists.specs.Lists.{firsts}
-use Rattle.canonical.specs.Inner.Walk.{lent_spread, Own, Holds}
+use Rattle.canonical.specs.Inner.Walk.{lent_spread, Own}
 use Rattle.canonical.proofs.Listed.{within-at, holds_as, holds-own}
 use Rattle.canonical.proofs.Spread.{spread-turn}
 use Rattle.canonical.proofs.walk.spread_level.Goals as goal

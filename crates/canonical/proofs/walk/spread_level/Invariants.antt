@@ -1,15 +1,11 @@
 -- `canonical::walk::spread_level` meets its contract: the list has what the first i nodes seen are below the level.
 -- Assumes nothing.
-use borrow.Author.Rules.{rules}
-use mathlib.Core.Path.{◌≡◌, refl, sym, ap, subst}
-use Prim.Native.Nat.{ℕ, ◌≤◌, ◌-◌}
-use native.Mathlib.Omega.{arith}
+use mathlib.Core.Path.{◌≡◌}
+use Prim.Native.Nat.{◌≤◌, ◌-◌}
 use lib.Dec.{eqb}
 use lib.ListN.{length, take}
 use Rattle.lists.specs.Lists.{firsts}
-use Rattle.canonical.specs.Inner.Walk.{lent_spread, Own, Holds}
-use Rattle.canonical.proofs.Listed.{within-at, holds_as, holds-own}
-use Rattle.canonical.proofs.Spread.{spread-turn}
+use Rattle.canonical.specs.Inner.Walk.{lent_spread, Holds}
 use Rattle.canonical.proofs.walk.spread_level.Given as goal
 
 abbrev pub invariant-loop-i : goal.invariant-loop-i

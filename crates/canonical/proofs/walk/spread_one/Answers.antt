@@ -1,6 +1,5 @@
 -- `canonical::walk::spread_one` meets its contract: by whether the node stands at the level.
 -- Assumes nothing.
-use borrow.Author.Rules.{rules}
 use mathlib.Core.Path.{sym, ap}
 use native.Mathlib.Omega.{arith}
 use lib.ListN.{take}

@@ -1,13 +1,12 @@
 use borrow.Author.Rules.{rules}
 use mathlib.Core.Path.{◌≡◌, refl, ap}
 use mathlib.Core.Bool.{true}
-use Prim.Native.Nat.{ℕ, ◌≤◌, ◌-◌}
+use Prim.Native.Nat.{ℕ}
 use native.Mathlib.Omega.{arith}
 use lib.Dec.{eqb}
-use lib.ListN.{length, take}
+use lib.ListN.{take}
 use Rattle.lists.specs.Lists.{firsts}
 use Rattle.diagram.specs.Canonical.Structure.{all_targets}
-use Rattle.canonical.specs.Inner.Walk.{Holds}
 use Rattle.canonical.proofs.Listed.{holds_as, holds-own}
 use Rattle.canonical.proofs.Spread.{roots-turn}
 use Rattle.canonical.proofs.walk.spread_roots.Goals as goal

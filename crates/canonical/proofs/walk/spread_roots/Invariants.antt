@@ -1,17 +1,13 @@
 -- `canonical::walk::spread_roots` meets its contract: the list has what the first j roots are to.
 -- Assumes nothing.
-use borrow.Author.Rules.{rules}
-use mathlib.Core.Path.{◌≡◌, refl, ap}
+use mathlib.Core.Path.{◌≡◌}
 use mathlib.Core.Bool.{true}
-use Prim.Native.Nat.{ℕ, ◌≤◌, ◌-◌}
-use native.Mathlib.Omega.{arith}
+use Prim.Native.Nat.{◌≤◌, ◌-◌}
 use lib.Dec.{eqb}
 use lib.ListN.{length, take}
 use Rattle.lists.specs.Lists.{firsts}
 use Rattle.diagram.specs.Canonical.Structure.{all_targets}
 use Rattle.canonical.specs.Inner.Walk.{Holds}
-use Rattle.canonical.proofs.Listed.{holds_as, holds-own}
-use Rattle.canonical.proofs.Spread.{roots-turn}
 use Rattle.canonical.proofs.walk.spread_roots.Given as goal
 
 abbrev pub invariant-loop-j : goal.invariant-loop-j

@@ -1,7 +1,6 @@
 use borrow.Author.Rules.{rules}
 use mathlib.Core.Path.{sym, subst}
-use mathlib.Core.Logic.{⊎_elim}
-use Prim.Native.Nat.{◌+◌, ◌≤◌, ◌-◌}
+use Prim.Native.Nat.{◌+◌}
 use native.Mathlib.Omega.{arith}
 use Rattle.canonical.proofs.Standing.{Follows, follows-none, follows-bound, follows-end, follows-other, follows_next, follows-broken}
 use Rattle.canonical.proofs.walk.standing_from.Goals as goal

@@ -1,11 +1,7 @@
 -- `canonical::walk::standing_from` meets its contract: those of the first i nodes seen that stand at the level are the next ones.
 -- Assumes nothing.
-use borrow.Author.Rules.{rules}
-use mathlib.Core.Path.{sym, subst}
-use mathlib.Core.Logic.{⊎_elim}
-use Prim.Native.Nat.{◌+◌, ◌≤◌, ◌-◌}
-use native.Mathlib.Omega.{arith}
-use Rattle.canonical.proofs.Standing.{Follows, follows-none, follows-bound, follows-end, follows-other, follows_next, follows-broken}
+use Prim.Native.Nat.{◌≤◌, ◌-◌}
+use Rattle.canonical.proofs.Standing.{Follows}
 use Rattle.canonical.proofs.walk.standing_from.Given as goal
 
 abbrev pub invariant-loop-i : goal.invariant-loop-i

@@ -1,10 +1,10 @@
 use borrow.Author.Rules.{rules}
 use mathlib.Core.Path.{◌≡◌, refl, sym, ap, ◌∙◌, subst}
-use Prim.Native.Nat.{ℕ, ◌-◌}
+use Prim.Native.Nat.{ℕ}
 use native.Mathlib.Omega.{arith}
 use lib.ListN.{length}
 use Rattle.canonical.specs.Inner.Walk.{Own}
-use Rattle.canonical.proofs.Walked.{rises, Walked, walked_start, walked-asks, walked_end, walked-broken, walked_next}
+use Rattle.canonical.proofs.Walked.{rises, walked_start, walked-asks, walked_end, walked-broken, walked_next}
 use Rattle.canonical.proofs.walk.walk.Goals as goal
 use Rattle.canonical.proofs.walk.walk.Goals.{After-spread_roots-len}
 

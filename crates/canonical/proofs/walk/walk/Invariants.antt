@@ -1,12 +1,9 @@
 -- `canonical::walk::walk` meets its contract: at level p the list is that of the nodes seen there, and all above it are numbered.
 -- Assumes nothing.
-use borrow.Author.Rules.{rules}
-use mathlib.Core.Path.{◌≡◌, refl, sym, ap, ◌∙◌, subst}
-use Prim.Native.Nat.{ℕ, ◌-◌}
-use native.Mathlib.Omega.{arith}
+use mathlib.Core.Path.{◌≡◌}
+use Prim.Native.Nat.{◌-◌}
 use lib.ListN.{length}
-use Rattle.canonical.specs.Inner.Walk.{Own}
-use Rattle.canonical.proofs.Walked.{rises, Walked, walked_start, walked-asks, walked_end, walked-broken, walked_next}
+use Rattle.canonical.proofs.Walked.{Walked}
 use Rattle.canonical.proofs.walk.walk.Given as goal
 
 abbrev pub invariant-loop-p : goal.invariant-loop-p

@@ -1,7 +1,6 @@
 -- `filed::output::file_blocks` meets its contract.
 -- Assumes nothing.
 use native.Mathlib.Omega.{arith}
-use borrow.Author.Rules.{rules}
 use Rattle.filed.proofs.FiledCases.{blocks-few, blocks-most}
 use Rattle.filed.proofs.output.file_blocks.Goals as goal
 

@@ -1,7 +1,6 @@
 -- `filed::output::write_input` meets its contract.
 -- Assumes nothing.
 use mathlib.Core.Path.{◌∙◌}
-use borrow.Author.Rules.{rules}
 use Rattle.text.proofs.Writing.{written_as}
 use Rattle.filed.proofs.FiledCases.{filed-of, filed-work-of}
 use Rattle.filed.proofs.output.write_input.Goals as goal

@@ -2,7 +2,6 @@
 -- Assumes nothing.
 use mathlib.Core.Path.{sym, ◌∙◌}
 use native.Mathlib.Omega.{arith}
-use borrow.Author.Rules.{rules}
 use Rattle.table.proofs.Planes.PlaneSize.{plane-size}
 use Rattle.fill.proofs.Buffers.Sizes.{work-size}
 use Rattle.lent.proofs.Sizes.{roots-size}

@@ -1,7 +1,6 @@
 -- `filed::output::write_outcome` meets its contract.
 -- Assumes nothing.
 use mathlib.Core.Path.{sym, ◌∙◌}
-use borrow.Author.Rules.{rules}
 use borrow.Author.Tests.{not-true, not-false}
 use Rattle.filed.proofs.FiledCases.{filed-unbuilt, filed-built}
 use Rattle.filed.proofs.output.write_outcome.Goals as goal

@@ -1,13 +1,7 @@
 -- `fill::cells::differing_pairs` meets its contract. The loop's invariant: the pairs before e are counted. Assumes nothing.
-use borrow.Author.Rules.{rules}
-use mathlib.Core.Path.{◌≡◌, sym, ap, ◌∙◌}
-use mathlib.Core.Logic.{⊎_elim}
+use mathlib.Core.Path.{◌≡◌}
 use Prim.Native.Nat.{◌-◌, ◌≤◌}
-use native.Mathlib.Nat.{le_antisymm, add-zero}
-use native.Mathlib.Omega.{arith}
-use Rattle.lists.specs.Bits.{digit}
 use Rattle.fill.specs.Counts.{differing_pairs}
-use Rattle.fill.proofs.Counting.CountedCells.{pairs-more}
 use Rattle.fill.proofs.cells.differing_pairs.Given as goal
 
 abbrev pub invariant-loop-e : goal.invariant-loop-e

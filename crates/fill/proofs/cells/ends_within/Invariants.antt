@@ -1,14 +1,10 @@
 -- `fill::cells::ends_within` meets its contract. The loop's invariant: what room is left ends where the bound is, and the levels from p on
 -- are left for it.
 -- Assumes nothing.
-use borrow.Author.Rules.{rules}
-use mathlib.Core.Path.{◌≡◌, sym, ap, ◌∙◌}
-use Prim.Native.Nat.{ℕ, ◌+◌, ◌-◌, ◌*◌, ◌≤◌}
-use native.Mathlib.Omega.{arith}
-use borrow.Author.Tests.{le-leb, lt-leb}
-use lib.ListN.{get_or, take, drop}
+use mathlib.Core.Path.{◌≡◌}
+use Prim.Native.Nat.{◌-◌, ◌≤◌}
+use lib.ListN.{take, drop}
 use Rattle.fill.specs.Counts.{links_end}
-use Rattle.fill.proofs.Counting.CountedCells.{end-behind, end-next, end-last}
 use Rattle.fill.proofs.cells.ends_within.Given as goal
 
 abbrev pub invariant-loop-p : goal.invariant-loop-p

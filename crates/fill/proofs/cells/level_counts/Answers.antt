@@ -1,11 +1,11 @@
 use borrow.Author.Rules.{rules}
 use mathlib.Core.Path.{refl}
-use Prim.Native.Nat.{◌-◌, ◌≤◌, ◌+◌, ◌*◌}
+use Prim.Native.Nat.{◌≤◌, ◌+◌, ◌*◌}
 use native.Mathlib.Nat.{le_antisymm}
 use lib.ListN.{length, set, get_or}
 use Rattle.fill.specs.Work.{links_at}
 use Rattle.fill.proofs.Buffers.Sizes.{sizes}
-use Rattle.fill.proofs.Counting.CountedCells.{Counting, counting-first, counting-last, counting-room, counting-on}
+use Rattle.fill.proofs.Counting.CountedCells.{counting-first, counting-last, counting-room, counting-on}
 use Rattle.fill.proofs.cells.level_counts.Goals as goal
 use Rattle.fill.proofs.cells.level_counts.Goals.{In-loop-p}
 

@@ -1,14 +1,9 @@
 -- `fill::cells::level_counts` meets its contract. The loop's invariant: the levels before p are counted, and the links of level p begin at
 -- `at`.
 -- Assumes nothing.
-use borrow.Author.Rules.{rules}
-use mathlib.Core.Path.{refl}
 use Prim.Native.Nat.{◌-◌, ◌≤◌, ◌+◌, ◌*◌}
-use native.Mathlib.Nat.{le_antisymm}
-use lib.ListN.{length, set, get_or}
 use Rattle.fill.specs.Work.{links_at}
-use Rattle.fill.proofs.Buffers.Sizes.{sizes}
-use Rattle.fill.proofs.Counting.CountedCells.{Counting, counting-first, counting-last, counting-room, counting-on}
+use Rattle.fill.proofs.Counting.CountedCells.{Counting}
 use Rattle.fill.proofs.cells.level_counts.Given as goal
 
 abbrev pub invariant-loop-p : goal.invariant-loop-p

@@ -1,5 +1,4 @@
 -- `fill::cells::pair_differs` meets its contract. Assumes nothing.
-use borrow.Author.Rules.{rules}
 use Prim.Native.Nat.{◌+◌}
 use Rattle.fill.proofs.Counting.CountedCells.{pair-low, pair-high}
 use Rattle.fill.proofs.cells.pair_differs.Goals as goal

@@ -1,15 +1,10 @@
 -- `fill::cells::total` meets its contract. The loop's invariant: the counts before p are added up, and the others make up the sum.
 -- Assumes nothing.
-use borrow.Author.Rules.{rules}
 use mathlib.Core.Path.{◌≡◌}
 use mathlib.Core.List.{sum}
 use Prim.Native.Nat.{◌-◌, ◌≤◌, ◌+◌}
-use native.Mathlib.Nat.{zero-add}
-use native.Mathlib.Omega.{arith}
 use lib.ListN.{drop}
-use Rattle.lists.proofs.Numbers.Total.{sum_more, sum-all}
 use Rattle.diagram.specs.Networks.Bound.{most_variables}
-use Rattle.fill.proofs.Buffers.Sizes.{sizes}
 use Rattle.fill.proofs.cells.total.Given as goal
 
 abbrev pub invariant-loop-p : goal.invariant-loop-p

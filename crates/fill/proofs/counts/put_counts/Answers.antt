@@ -1,5 +1,4 @@
 -- `fill::counts::put_counts` meets its contract, a law for each way out. Assumes nothing.
-use borrow.Author.Rules.{rules}
 use mathlib.Core.Path.{sym, ◌∙◌}
 use native.Mathlib.Omega.{arith}
 use Rattle.fill.proofs.Calls.TriedCounts.{counts-put, put-nowhere, put-short}

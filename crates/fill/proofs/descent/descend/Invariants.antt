@@ -1,15 +1,11 @@
 -- `fill::descent::descend` meets its contract. The loop's invariant: the entries of d variables lie in one region, all else of the regions
 -- is zero, and the links so far, with those of the levels below, are all. Assumes nothing.
-use borrow.Author.Rules.{rules}
-use mathlib.Core.Path.{◌≡◌, refl, ap, subst}
-use mathlib.Core.List.{List}
-use Prim.Native.Nat.{ℕ, suc, ◌+◌, ◌*◌, ◌-◌, ◌≤◌}
-use lib.ListN.{length, set}
+use mathlib.Core.Path.{◌≡◌}
+use Prim.Native.Nat.{◌≤◌}
+use lib.ListN.{length}
 use Rattle.matching.specs.Level.{parts_at}
 use Rattle.fill.specs.Inner.Descent.{links_up_to}
-use Rattle.fill.proofs.Buffers.Sizes.{sizes}
-use Rattle.fill.proofs.Buffers.HeldParts.{region-end}
-use Rattle.fill.proofs.Descents.WayDown.{Going, going-first, going-last, going-asks, going_on}
+use Rattle.fill.proofs.Descents.WayDown.{Going}
 use Rattle.fill.proofs.descent.descend.Given as goal
 
 abbrev pub invariant-loop-d : goal.invariant-loop-d

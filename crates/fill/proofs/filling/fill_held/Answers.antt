@@ -1,5 +1,4 @@
 -- `fill::filling::fill_held` meets its contract, by the laws of a held table's filling. Assumes nothing.
-use borrow.Author.Rules.{rules}
 use Rattle.table.proofs.Held.{few-inputs, few-outputs}
 use Rattle.fill.specs.Work.{links_at}
 use Rattle.fill.proofs.Buffers.Sizes.{sizes}

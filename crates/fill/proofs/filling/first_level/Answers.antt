@@ -1,5 +1,4 @@
 -- `fill::filling::first_level` meets its contract: what is gathered of the outputs is their bytes under the order. Assumes nothing.
-use borrow.Author.Rules.{rules}
 use mathlib.Core.Path.{sym}
 use mathlib.Core.List.{map}
 use Rattle.lists.specs.Lists.{up_to}

@@ -1,5 +1,4 @@
 -- `fill::fitting::exchange_kept` meets its contract: what it requires is all that the call needs. Assumes nothing.
-use borrow.Author.Rules.{rules}
 use lib.ListN.{length}
 use Rattle.matching.proofs.Buffers.Fitting.{parts-say}
 use Rattle.fill.proofs.fitting.exchange_kept.Goals as goal

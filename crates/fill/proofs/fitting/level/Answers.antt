@@ -1,5 +1,4 @@
 -- `fill::fitting::level` meets its contract: what it requires is all that the call needs. Assumes nothing.
-use borrow.Author.Rules.{rules}
 use lib.ListN.{length}
 use Rattle.matching.proofs.Buffers.Fitting.{level-says}
 use Rattle.fill.proofs.fitting.level.Goals as goal

@@ -1,14 +1,7 @@
 -- `fill::lowering::count_below` meets its contract. The loop's invariant: the levels before level l are counted, and the entries of e
 -- variables lie at a. Assumes nothing.
-use borrow.Author.Rules.{rules}
-use mathlib.Core.Path.{◌≡◌, refl, subst}
-use mathlib.Core.List.{List}
-use Prim.Native.Nat.{ℕ, suc, ◌+◌, ◌*◌, ◌-◌, ◌≤◌}
-use lib.ListN.{length, set}
 use Rattle.matching.specs.Level.{parts_at}
-use Rattle.fill.specs.Inner.Lowering.{level_links_at}
-use Rattle.fill.proofs.Lowered.TrialSizes.{trial_sizes}
-use Rattle.fill.proofs.Lowered.LevelsCounted.{Counted, down-place, counted-first, counted-last, counted-asks, counted-on}
+use Rattle.fill.proofs.Lowered.LevelsCounted.{Counted}
 use Rattle.fill.proofs.lowering.count_below.Given as goal
 
 abbrev pub invariant-loop-e : goal.invariant-loop-e

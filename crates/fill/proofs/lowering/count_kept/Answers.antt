@@ -1,5 +1,4 @@
 -- `fill::lowering::count_kept` meets its contract, by cases on whether the level is left out. Assumes nothing.
-use borrow.Author.Rules.{rules}
 use mathlib.Core.Path.{refl, ap, ◌∙◌}
 use Prim.Native.Nat.{◌*◌}
 use borrow.Author.Tests.{eq-eqb, ne_eqb}

@@ -1,5 +1,4 @@
 -- `fill::lowering::first_kept` meets its contract: what is gathered of the outputs is their bytes under the order. Assumes nothing.
-use borrow.Author.Rules.{rules}
 use mathlib.Core.List.{map}
 use Rattle.lists.specs.Lists.{up_to}
 use Rattle.table.proofs.Held.{few-inputs, few-outputs}

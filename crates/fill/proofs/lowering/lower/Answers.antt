@@ -1,5 +1,4 @@
 -- `fill::lowering::lower` meets its contract. Assumes nothing.
-use borrow.Author.Rules.{rules}
 use mathlib.Core.Path.{refl, ap}
 use lib.ListN.{set}
 use Rattle.fill.proofs.Buffers.HeldParts.{region-end, regions-apart}

@@ -1,9 +1,8 @@
 use borrow.Author.Rules.{rules}
-use mathlib.Core.Path.{◌≡◌, refl, subst}
-use Prim.Native.Nat.{ℕ, ◌-◌, ◌≤◌, ◌<◌, zero-le}
+use mathlib.Core.Path.{refl, subst}
+use Prim.Native.Nat.{ℕ, ◌<◌, zero-le}
 use native.Mathlib.Nat.{le_antisymm}
 use native.Mathlib.Omega.{arith}
-use lib.ListN.{length}
 use Rattle.diagram.specs.Networks.Bound.{most_outputs}
 use Rattle.fill.proofs.Linking.LinkedOutputs.{Linked, linked-none, output-room, output-linked}
 use Rattle.fill.proofs.outputs.link_outputs.Goals as goal

@@ -1,12 +1,8 @@
 -- `fill::outputs::link_outputs` meets its contract. The loop's invariant: the first j outputs are linked. Assumes nothing.
-use borrow.Author.Rules.{rules}
-use mathlib.Core.Path.{◌≡◌, refl, subst}
-use Prim.Native.Nat.{ℕ, ◌-◌, ◌≤◌, ◌<◌, zero-le}
-use native.Mathlib.Nat.{le_antisymm}
-use native.Mathlib.Omega.{arith}
+use mathlib.Core.Path.{◌≡◌}
+use Prim.Native.Nat.{◌-◌, ◌≤◌}
 use lib.ListN.{length}
-use Rattle.diagram.specs.Networks.Bound.{most_outputs}
-use Rattle.fill.proofs.Linking.LinkedOutputs.{Linked, linked-none, output-room, output-linked}
+use Rattle.fill.proofs.Linking.LinkedOutputs.{Linked}
 use Rattle.fill.proofs.outputs.link_outputs.Given as goal
 
 abbrev pub invariant-loop-j : goal.invariant-loop-j

@@ -1,12 +1,8 @@
 -- `fill::outputs::zero` meets its contract. The loop's invariant: j zeros are written. Assumes nothing.
-use borrow.Author.Rules.{rules}
-use mathlib.Core.Path.{◌≡◌, refl, sym, ap, ◌∙◌}
-use Prim.Native.Nat.{ℕ, ◌+◌, ◌-◌, ◌≤◌}
-use native.Mathlib.Nat.{le_antisymm}
-use lib.ListN.{length, replicate, length-set}
+use mathlib.Core.Path.{◌≡◌}
+use Prim.Native.Nat.{◌-◌, ◌≤◌}
+use lib.ListN.{length, replicate}
 use Rattle.lists.specs.Written.{splice}
-use Rattle.lists.proofs.Written.Splice.{splice-none}
-use Rattle.lists.proofs.Written.Zeros.{zeros-more}
 use Rattle.fill.proofs.outputs.zero.Given as goal
 
 abbrev pub invariant-loop-j : goal.invariant-loop-j

@@ -1,6 +1,5 @@
 -- `lent::cells::good_cells` meets its contract: enough cells, enough roots, then well-formed.
 -- Assumes nothing.
-use borrow.Author.Rules.{rules}
 use mathlib.Core.Path.{sym, ◌∙◌}
 use Rattle.lent.proofs.Answered.{few-cells, few-roots, enough-cells}
 use Rattle.lent.proofs.cells.good_cells.Goals as goal

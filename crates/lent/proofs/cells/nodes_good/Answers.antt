@@ -1,9 +1,6 @@
 use borrow.Author.Rules.{rules}
-use mathlib.Core.Path.{◌≡◌, refl, sym, ◌∙◌}
-use mathlib.Core.Bool.{true}
-use Prim.Native.Nat.{◌≤◌, ◌-◌}
+use mathlib.Core.Path.{refl, sym, ◌∙◌}
 use borrow.Author.Tests.{not-true, not-false}
-use Rattle.lists.specs.Lists.{all, up_to}
 use Rattle.lists.proofs.Numbers.Compared.{all-up_to-more}
 use Rattle.lent.specs.Lent.{number_in}
 use Rattle.lent.proofs.Tested.{good_node, nodes-bad, nodes-good}

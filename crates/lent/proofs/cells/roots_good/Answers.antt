@@ -1,10 +1,7 @@
 use borrow.Author.Rules.{rules}
-use mathlib.Core.Path.{◌≡◌, refl, sym}
-use mathlib.Core.Bool.{true}
-use Prim.Native.Nat.{◌≤◌, ◌-◌}
-use Rattle.lists.specs.Lists.{all, up_to}
+use mathlib.Core.Path.{refl, sym}
 use Rattle.lent.specs.Lent.{number_in}
-use Rattle.lent.proofs.Tested.{own_root, roots-bad, roots-more, roots-good}
+use Rattle.lent.proofs.Tested.{roots-bad, roots-more, roots-good}
 use Rattle.lent.proofs.cells.roots_good.Goals as goal
 
 pub loop-j-init : goal.loop-j-init

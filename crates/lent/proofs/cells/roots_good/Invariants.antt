@@ -1,13 +1,12 @@
 -- `lent::cells::roots_good` meets its contract: the roots below j are the diagram's own, and the loop ends at the first that is not, or
 -- past the last of m.
 -- Assumes nothing.
-use borrow.Author.Rules.{rules}
-use mathlib.Core.Path.{◌≡◌, refl, sym}
+use mathlib.Core.Path.{◌≡◌}
 use mathlib.Core.Bool.{true}
 use Prim.Native.Nat.{◌≤◌, ◌-◌}
 use Rattle.lists.specs.Lists.{all, up_to}
 use Rattle.lent.specs.Lent.{number_in}
-use Rattle.lent.proofs.Tested.{own_root, roots-bad, roots-more, roots-good}
+use Rattle.lent.proofs.Tested.{own_root}
 use Rattle.lent.proofs.cells.roots_good.Given as goal
 
 abbrev pub invariant-loop-j : goal.invariant-loop-j

@@ -1,6 +1,5 @@
 -- `lent::cells::well_formed` meets its contract: the roots, then the cells, of the lent diagram by its numbers.
 -- Assumes nothing.
-use borrow.Author.Rules.{rules}
 use mathlib.Core.Path.{◌≡◌, sym, ap, ◌∙◌}
 use mathlib.Core.Bool.{true}
 use borrow.Author.Tests.{not-true, not-false}

@@ -1,6 +1,5 @@
 -- `lent::follow::bit_under` meets its contract: the variable at a level is below n, so the shift does not wrap.
 -- Assumes nothing.
-use borrow.Author.Rules.{rules}
 use native.Mathlib.Omega.{arith}
 use Rattle.lent.proofs.Following.{variable-below, bit_shifted}
 use Rattle.lent.proofs.follow.bit_under.Goals as goal

@@ -1,12 +1,8 @@
 use borrow.Author.Rules.{rules}
-use mathlib.Core.Path.{◌≡◌, refl, ◌∙◌}
-use mathlib.Core.Bool.{true}
-use lib.Dec.{T}
-use Rattle.lists.specs.Bits.{flip}
-use Rattle.diagram.specs.Networks.Diagram.{refers, gives}
+use mathlib.Core.Path.{refl, ◌∙◌}
 use Rattle.lent.specs.Inner.Cells.{level_bit}
 use Rattle.lent.specs.Lent.{lent_cells}
-use Rattle.lent.proofs.Following.{left, step-own, step_falls, step_gives, last-gives}
+use Rattle.lent.proofs.Following.{step-own, step_falls, step_gives, last-gives}
 use Rattle.lent.proofs.follow.follow.Goals as goal
 
 pub loop-r-init : goal.loop-r-init

@@ -2,15 +2,14 @@
 -- inverted where `inverted` says.
 -- The levels left at r fall.
 -- Assumes nothing.
-use borrow.Author.Rules.{rules}
-use mathlib.Core.Path.{◌≡◌, refl, ◌∙◌}
+use mathlib.Core.Path.{◌≡◌}
 use mathlib.Core.Bool.{true}
 use lib.Dec.{T}
 use Rattle.lists.specs.Bits.{flip}
 use Rattle.diagram.specs.Networks.Diagram.{refers, gives}
 use Rattle.lent.specs.Inner.Cells.{level_bit}
 use Rattle.lent.specs.Lent.{lent_cells}
-use Rattle.lent.proofs.Following.{left, step-own, step_falls, step_gives, last-gives}
+use Rattle.lent.proofs.Following.{left}
 use Rattle.lent.proofs.follow.follow.Given as goal
 
 abbrev pub invariant-loop-r : goal.invariant-loop-r

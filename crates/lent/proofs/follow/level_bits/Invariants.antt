@@ -1,13 +1,10 @@
 -- `lent::follow::level_bits` meets its contract: the bits so far are the number that those of the levels below p make.
 -- Assumes nothing.
-use borrow.Author.Rules.{rules}
-use mathlib.Core.Path.{◌≡◌, refl, ap, ◌∙◌}
-use Prim.Native.Nat.{ℕ, ◌≤◌, ◌-◌}
-use native.Mathlib.Omega.{arith}
+use mathlib.Core.Path.{◌≡◌}
+use Prim.Native.Nat.{◌≤◌, ◌-◌}
 use lib.ListN.{take}
 use Rattle.lists.specs.Bits.{packed}
 use Rattle.diagram.specs.Orders.Order.{row_under}
-use Rattle.lent.proofs.Gathered.{bit_added, sum_fits}
 use Rattle.lent.proofs.follow.level_bits.Given as goal
 
 abbrev pub invariant-loop-p : goal.invariant-loop-p

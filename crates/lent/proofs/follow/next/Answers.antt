@@ -1,6 +1,5 @@
 -- `lent::follow::next` meets its contract: the cell behind the reference is lent, and its level is below n.
 -- Assumes nothing.
-use borrow.Author.Rules.{rules}
 use mathlib.Core.Path.{◌∙◌}
 use Prim.Native.Nat.{◌+◌, ◌-◌, ◌/◌, ◌≤◌}
 use native.Mathlib.Omega.{arith}

@@ -1,16 +1,11 @@
 -- `lent::follow::outputs` meets its contract: the total is the number that what the bits give at the roots below j make.
 -- Assumes nothing.
-use borrow.Author.Rules.{rules}
-use mathlib.Core.Path.{◌≡◌, refl, sym, ap, ◌∙◌}
-use mathlib.Core.Bool.{Bool}
-use mathlib.Core.Logic.{⊎_elim}
-use Prim.Native.Nat.{ℕ, ◌≤◌, ◌-◌}
-use native.Mathlib.Omega.{arith}
-use Rattle.lists.specs.Bits.{digit, packed}
+use mathlib.Core.Path.{◌≡◌}
+use Prim.Native.Nat.{◌≤◌, ◌-◌}
+use Rattle.lists.specs.Bits.{packed}
 use Rattle.lent.specs.Inner.Cells.{level_bit}
 use Rattle.lent.specs.Lent.{lent_cells}
-use Rattle.lent.proofs.Gathered.{zero-omitted, bit_added, sum_fits}
-use Rattle.lent.proofs.Outputs.{root-own, given_at, found_at, outputs-given}
+use Rattle.lent.proofs.Outputs.{given_at}
 use Rattle.lent.proofs.follow.outputs.Given as goal
 
 abbrev pub invariant-loop-j : goal.invariant-loop-j

@@ -1,7 +1,5 @@
 -- `lent::follow::tested_number` meets its contract: a number of 16 bits fits. Assumes nothing.
-use borrow.Author.Rules.{rules}
 use mathlib.Core.Path.{refl}
-use native.Mathlib.Omega.{arith}
 use Rattle.lent.proofs.follow.tested_number.Goals as goal
 
 pub returns : goal.returns

@@ -1,11 +1,9 @@
-use borrow.Author.Rules.{rules}
-use mathlib.Core.Path.{◌≡◌, refl, ap, ◌∙◌}
-use Prim.Native.Nat.{ℕ, ◌-◌, ◌≤◌}
+use mathlib.Core.Path.{refl, ap, ◌∙◌}
+use Prim.Native.Nat.{ℕ}
 use native.Mathlib.Omega.{arith}
 use lib.ListN.{length, get_or}
 use lib.Pow.{pow_mono}
 use Rattle.lists.specs.Bits.{packed}
-use Rattle.lists.specs.Written.{over}
 use Rattle.lists.proofs.Bits.Packed.{packed_lt}
 use Rattle.lists.proofs.Written.Over.{over-next, length_over}
 use Rattle.diagram.specs.Networks.Bound.{most_outputs}

@@ -1,6 +1,5 @@
 -- `lent::tabulate::ones_byte` meets its contract: the byte is past the ones, among them, or has the last of them.
 -- Assumes nothing.
-use borrow.Author.Rules.{rules}
 use native.Mathlib.Omega.{arith}
 use Prim.Native.Nat.{◌*◌, ◌-◌}
 use lib.Pow.{pow_pos}

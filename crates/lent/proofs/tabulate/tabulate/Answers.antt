@@ -1,6 +1,5 @@
 -- `lent::tabulate::tabulate` meets its contract: each return by the tests that led there.
 -- Assumes nothing.
-use borrow.Author.Rules.{rules}
 use mathlib.Core.Path.{◌≡◌, sym, ◌∙◌}
 use mathlib.Core.Bool.{true}
 use native.Mathlib.Omega.{arith}

@@ -1,6 +1,5 @@
 -- `lent::tabulate::value_bit` meets its contract: past the stream nothing, else what the row gives at its output's root.
 -- Assumes nothing.
-use borrow.Author.Rules.{rules}
 use mathlib.Core.Path.{sym, ◌∙◌}
 use mathlib.Core.Bool.{true}
 use Prim.Native.Nat.{◌*◌, ◌/◌, ◌^◌, ◌<◌}

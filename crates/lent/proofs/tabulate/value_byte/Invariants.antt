@@ -1,17 +1,10 @@
 -- `lent::tabulate::value_byte` meets its contract. The invariant: the byte has its b lowest bits.
 -- Assumes nothing.
-use borrow.Author.Rules.{rules}
-use mathlib.Core.Path.{◌≡◌, refl, sym, ap, ◌∙◌}
-use mathlib.Core.Bool.{Bool}
-use mathlib.Core.Logic.{⊎_elim}
-use Prim.Native.Nat.{ℕ, ◌+◌, ◌*◌, ◌≤◌, ◌-◌}
-use native.Mathlib.Omega.{arith}
+use mathlib.Core.Path.{◌≡◌}
+use Prim.Native.Nat.{◌+◌, ◌*◌, ◌≤◌, ◌-◌}
 use Rattle.lists.specs.Bits.{packed}
-use Rattle.lists.proofs.Bits.Packed.{bit-set, bit-clear}
-use Rattle.table.proofs.Planes.PlaneSize.{plane-size}
 use Rattle.lent.specs.Tabulate.{lent_table}
 use Rattle.lent.specs.Inner.Tabulate.{table_bit}
-use Rattle.lent.proofs.Tabulating.{byte-of-bits}
 use Rattle.lent.proofs.tabulate.value_byte.Given as goal
 
 abbrev pub invariant-loop-b : goal.invariant-loop-b

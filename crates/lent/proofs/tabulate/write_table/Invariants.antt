@@ -1,17 +1,11 @@
 -- `lent::tabulate::write_table` meets its contract. The loop's invariant: both planes are written over as far as byte i.
 -- Assumes nothing.
-use mathlib.Core.Path.{◌≡◌, refl, ap, ◌∙◌}
-use Prim.Native.Nat.{ℕ, ◌*◌, ◌-◌, ◌%◌, ◌^◌, ◌≤◌}
-use native.Mathlib.Omega.{arith}
+use mathlib.Core.Path.{◌≡◌}
+use Prim.Native.Nat.{◌-◌, ◌≤◌}
 use Rattle.lists.specs.Written.{over}
-use Rattle.lists.proofs.Written.Over.{over-next}
 use Rattle.table.specs.Stream.{plane_byte}
 use Rattle.table.specs.Calls.{plane_size}
-use Rattle.table.proofs.Files.Answers.{stream-small, shifted-out}
-use Rattle.table.proofs.Planes.PlaneSize.{plane-size, plane-length, plane-whole}
 use Rattle.lent.specs.Tabulate.{lent_table}
-use Rattle.lent.specs.Inner.Tabulate.{ones_byte}
-use Rattle.lent.proofs.Tabulating.{ones-care}
 use Rattle.lent.proofs.tabulate.write_table.Given as goal
 
 abbrev pub invariant-loop-i : goal.invariant-loop-i

@@ -1,13 +1,9 @@
 -- `matching::copy::copy_to` meets its contract. The loop's invariant: the first j bytes of x stand from byte k on. The measure is how many
 -- are left. Assumes nothing.
-use borrow.Author.Rules.{rules}
-use mathlib.Core.Path.{◌≡◌, refl, sym, ap, ◌∙◌}
-use Prim.Native.Nat.{ℕ, ◌+◌, ◌-◌, ◌≤◌, zero-le}
-use native.Mathlib.Nat.{le_antisymm}
+use mathlib.Core.Path.{◌≡◌}
+use Prim.Native.Nat.{◌-◌, ◌≤◌}
 use lib.ListN.{length, take}
-use lib.Seq.{take-length}
 use Rattle.lists.specs.Written.{splice}
-use Rattle.lists.proofs.Written.Splice.{splice-none, splice-more, length-splice-take}
 use Rattle.matching.proofs.copy.copy_to.Given as goal
 
 abbrev pub invariant-loop-j : goal.invariant-loop-j

@@ -1,12 +1,9 @@
 -- `matching::exchange::exchange_blocks` meets its contract. The loop's invariant: the first j bytes of both blocks are exchanged. The measure
 -- is how many are left. Assumes nothing.
-use borrow.Author.Rules.{rules}
-use mathlib.Core.Path.{◌≡◌, refl, ap, ◌∙◌}
-use Prim.Native.Nat.{◌*◌, ◌-◌, ◌≤◌, zero-le}
-use native.Mathlib.Nat.{le_antisymm}
-use native.Mathlib.Omega.{arith}
-use lib.ListN.{length, length-set}
-use Rattle.matching.proofs.Parts.ExchangedBytes.{halfway, halfway-none, halfway-more, halfway-all}
+use mathlib.Core.Path.{◌≡◌}
+use Prim.Native.Nat.{◌*◌, ◌-◌, ◌≤◌}
+use lib.ListN.{length}
+use Rattle.matching.proofs.Parts.ExchangedBytes.{halfway}
 use Rattle.matching.proofs.exchange.exchange_blocks.Given as goal
 
 abbrev pub invariant-loop-j : goal.invariant-loop-j

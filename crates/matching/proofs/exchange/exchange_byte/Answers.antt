@@ -1,5 +1,4 @@
 -- `matching::exchange::exchange_byte` meets its contract. Assumes nothing.
-use borrow.Author.Rules.{rules}
 use mathlib.Core.Bool.{true, false}
 use native.Mathlib.Omega.{arith}
 use Rattle.matching.proofs.Parts.ExchangedBytes.{paired-lt, byte-joined}

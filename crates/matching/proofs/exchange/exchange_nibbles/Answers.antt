@@ -1,5 +1,4 @@
 -- `matching::exchange::exchange_nibbles` meets its contract: both bytes are read before either is stored. Assumes nothing.
-use borrow.Author.Rules.{rules}
 use Rattle.matching.proofs.Parts.ExchangedBytes.{nibbles-exchanged}
 use Rattle.matching.proofs.exchange.exchange_nibbles.Goals as goal
 

@@ -1,5 +1,4 @@
 -- `matching::exchange::exchange_plane` meets its contract: a plane is one byte, two bytes, or four blocks of bytes. Assumes nothing.
-use borrow.Author.Rules.{rules}
 use mathlib.Core.Path.{◌≡◌, ap, ◌∙◌}
 use Prim.Native.Nat.{ℕ, suc, ◌*◌, ◌≤◌}
 use native.Mathlib.Omega.{arith}

@@ -1,5 +1,4 @@
 -- `matching::exchange::join_byte` meets its contract, by cases on d. Assumes nothing.
-use borrow.Author.Rules.{rules}
 use native.Mathlib.Omega.{arith}
 use Rattle.matching.proofs.Parts.PartHalves.{shift_small}
 use Rattle.matching.proofs.Parts.ExchangedBytes.{join-fits, join-shifted}

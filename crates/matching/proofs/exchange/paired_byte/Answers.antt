@@ -1,5 +1,4 @@
 -- `matching::exchange::paired_byte` meets its contract: a half's bits are those of its rows. Assumes nothing.
-use borrow.Author.Rules.{rules}
 use mathlib.Core.Path.{ap₂, ◌∙◌}
 use Rattle.matching.specs.Exchange.{join_byte}
 use Rattle.matching.proofs.Parts.ExchangedBytes.{half_lt}

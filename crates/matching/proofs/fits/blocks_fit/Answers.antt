@@ -1,6 +1,5 @@
 -- `matching::fits::blocks_fit` meets its contract: where the first block begins past the end none fits, and else a division counts them.
 -- Assumes nothing.
-use borrow.Author.Rules.{rules}
 use mathlib.Core.Path.{sym}
 use Prim.Native.Nat.{◌+◌, ◌*◌}
 use native.Mathlib.Omega.{arith}

@@ -1,5 +1,4 @@
 -- `matching::fits::region_fits` meets its contract. Assumes nothing.
-use borrow.Author.Rules.{rules}
 use mathlib.Core.Path.{◌∙◌}
 use Rattle.matching.specs.Fits.{region_fits}
 use Rattle.matching.proofs.Buffers.Fitting.{region-word, refused, passed}

@@ -1,5 +1,4 @@
 -- `matching::fits::regions_apart` meets its contract. Assumes nothing.
-use borrow.Author.Rules.{rules}
 use mathlib.Core.Path.{sym, ◌∙◌}
 use Rattle.matching.specs.Fits.{regions_apart}
 use Rattle.matching.proofs.fits.regions_apart.Goals as goal

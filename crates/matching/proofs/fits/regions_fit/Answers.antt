@@ -1,5 +1,4 @@
 -- `matching::fits::regions_fit` meets its contract. Assumes nothing.
-use borrow.Author.Rules.{rules}
 use Rattle.matching.specs.Fits.{regions_fit}
 use Rattle.matching.proofs.Buffers.Fitting.{refused, passed}
 use Rattle.matching.proofs.fits.regions_fit.Goals as goal

@@ -1,5 +1,4 @@
 -- `matching::halves::half_byte` meets its contract, by cases on b. Assumes nothing.
-use borrow.Author.Rules.{rules}
 use native.Mathlib.Omega.{arith}
 use Rattle.lists.proofs.Bits.Digits.{one_shifted}
 use Rattle.matching.proofs.Parts.PartHalves.{shift_small, bits-high, bits-low}

@@ -1,5 +1,4 @@
 -- `matching::halves::row_mask` meets its contract, by cases on d. Assumes nothing.
-use borrow.Author.Rules.{rules}
 use native.Mathlib.Omega.{arith}
 use Rattle.matching.proofs.Parts.PartHalves.{shift_small, mask-some, mask-shifted}
 use Rattle.matching.proofs.halves.row_mask.Goals as goal

@@ -1,5 +1,4 @@
 -- `matching::level::half_at` meets its contract: the part is what is lent for its half. Assumes nothing.
-use borrow.Author.Rules.{rules}
 use mathlib.Core.Path.{◌≡◌, ap, ◌∙◌}
 use mathlib.Core.List.{List, ◌++◌}
 use Prim.Native.Nat.{ℕ, suc, ◌+◌}

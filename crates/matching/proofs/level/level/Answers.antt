@@ -1,5 +1,4 @@
 -- `matching::level::level` meets its contract: of a wide level the two buffers for halves are lent. Assumes nothing.
-use borrow.Author.Rules.{rules}
 use native.Mathlib.Omega.{arith}
 use Rattle.reorder.proofs.Shifts.{part-size}
 use Rattle.matching.proofs.level.level.Goals as goal

@@ -1,5 +1,4 @@
 -- `matching::level::link_halves` meets its contract: what lies at the front of the two buffers are the halves. Assumes nothing.
-use borrow.Author.Rules.{rules}
 use mathlib.Core.Path.{◌≡◌, ap, ◌∙◌}
 use mathlib.Core.Bool.{Bool, true, false}
 use mathlib.Core.List.{List, ◌++◌}

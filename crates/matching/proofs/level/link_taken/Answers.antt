@@ -1,5 +1,4 @@
 -- `matching::level::link_taken` meets its contract, by cases on whether the halves agree. Assumes nothing.
-use borrow.Author.Rules.{rules}
 use mathlib.Core.Path.{◌≡◌, sym, ◌∙◌}
 use mathlib.Core.Bool.{Bool, true, false, cond}
 use native.Mathlib.Omega.{arith}

@@ -1,16 +1,9 @@
 -- `matching::level::wide_level` meets its contract. The loop's invariant: what the halves of the first e parts come to is linked. The measure is how
 -- many parts are left. Assumes nothing.
-use borrow.Author.Rules.{rules}
-use mathlib.Core.Path.{◌≡◌, refl, ap, ◌∙◌, subst}
-use Prim.Native.Nat.{ℕ, suc, ◌+◌, ◌*◌, ◌-◌, ◌≤◌, zero-le}
-use native.Mathlib.Nat.{le_antisymm}
-use native.Mathlib.Numerals.{add-one}
-use native.Mathlib.Omega.{arith}
+use mathlib.Core.Path.{◌≡◌}
+use Prim.Native.Nat.{◌-◌, ◌≤◌}
 use lib.ListN.{length}
-use Rattle.reorder.specs.Sizes.{width}
-use Rattle.reorder.proofs.Shifts.{width-met}
-use Rattle.matching.specs.Links.{region_size}
-use Rattle.matching.proofs.Linking.LinkedHalves.{SoFar, so-far-none, in-region, turn-asks, turn-leaves}
+use Rattle.matching.proofs.Linking.LinkedHalves.{SoFar}
 use Rattle.matching.proofs.level.wide_level.Given as goal
 
 abbrev pub invariant-loop-e : goal.invariant-loop-e

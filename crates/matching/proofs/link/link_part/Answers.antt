@@ -1,5 +1,4 @@
 -- `matching::link::link_part` meets its contract: the region lent holds the entries' parts. Assumes nothing.
-use borrow.Author.Rules.{rules}
 use mathlib.Core.Path.{◌≡◌, sym, ◌∙◌, subst}
 use mathlib.Core.List.{[], ◌∷◌}
 use mathlib.Core.Logic.{◌⊎◌}

@@ -1,5 +1,4 @@
 -- `matching::link::link_twice` meets its contract: linking the candidate again would leave the same. Assumes nothing.
-use borrow.Author.Rules.{rules}
 use Rattle.matching.proofs.Linking.LinkedPair.{twice-linked}
 use Rattle.matching.proofs.link.link_twice.Goals as goal
 

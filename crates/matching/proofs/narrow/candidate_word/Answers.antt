@@ -1,5 +1,4 @@
 -- `matching::narrow::candidate_word` meets its contract, by cases on the two tests. Assumes nothing.
-use borrow.Author.Rules.{rules}
 use mathlib.Core.Bool.{true, false, false≢true}
 use Rattle.matching.specs.Inner.Words.{part_of}
 use Rattle.matching.proofs.Linking.Along.{shown-always, shown-along}

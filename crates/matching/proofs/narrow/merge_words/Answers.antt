@@ -1,5 +1,4 @@
 -- `matching::narrow::merge_words` meets its contract: both words of the part are read, merged and stored. Assumes nothing.
-use borrow.Author.Rules.{rules}
 use Rattle.matching.proofs.Linking.NarrowEntry.{words-merged}
 use Rattle.matching.proofs.narrow.merge_words.Goals as goal
 

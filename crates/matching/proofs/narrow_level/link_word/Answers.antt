@@ -1,5 +1,4 @@
 -- `matching::narrow_level::link_word` meets its contract: the region lent holds the entries' parts. Assumes nothing.
-use borrow.Author.Rules.{rules}
 use mathlib.Core.Path.{◌≡◌}
 use Prim.Native.Nat.{ℕ, ◌+◌, ◌-◌}
 use native.Mathlib.Omega.{arith}

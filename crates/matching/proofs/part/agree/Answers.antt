@@ -1,14 +1,11 @@
 use borrow.Author.Rules.{rules}
 use borrow.Author.Tests.{not-true, not-false}
-use mathlib.Core.Path.{◌≡◌, refl, sym, ap, ◌∙◌}
-use mathlib.Core.Bool.{Bool, true}
-use mathlib.Core.List.{List}
-use Prim.Native.Nat.{ℕ, ◌-◌, ◌≤◌, zero-le}
+use mathlib.Core.Path.{refl, sym, ap, ◌∙◌}
+use Prim.Native.Nat.{zero-le}
 use native.Mathlib.Nat.{le_antisymm}
 use Rattle.lists.specs.Lists.{all, up_to}
 use Rattle.lists.proofs.Numbers.Compared.{all-up_to-more, all-up_to-fails}
-use Rattle.matching.specs.Bytes.{agree_byte}
-use Rattle.matching.specs.Parts.{value_byte, care_byte, agree_part}
+use Rattle.matching.specs.Parts.{agree_part}
 use Rattle.matching.proofs.part.agree.Invariants.{test}
 use Rattle.matching.proofs.part.agree.Goals as goal
 

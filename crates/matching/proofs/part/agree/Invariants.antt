@@ -1,16 +1,12 @@
 -- `matching::part::agree` meets its contract. The loop's invariant: the bytes passed meet the test. The measure is how many are left.
 -- Assumes nothing.
-use borrow.Author.Rules.{rules}
-use borrow.Author.Tests.{not-true, not-false}
-use mathlib.Core.Path.{◌≡◌, refl, sym, ap, ◌∙◌}
+use mathlib.Core.Path.{◌≡◌}
 use mathlib.Core.Bool.{Bool, true}
 use mathlib.Core.List.{List}
-use Prim.Native.Nat.{ℕ, ◌-◌, ◌≤◌, zero-le}
-use native.Mathlib.Nat.{le_antisymm}
+use Prim.Native.Nat.{ℕ, ◌-◌, ◌≤◌}
 use Rattle.lists.specs.Lists.{all, up_to}
-use Rattle.lists.proofs.Numbers.Compared.{all-up_to-more, all-up_to-fails}
 use Rattle.matching.specs.Bytes.{agree_byte}
-use Rattle.matching.specs.Parts.{value_byte, care_byte, agree_part}
+use Rattle.matching.specs.Parts.{value_byte, care_byte}
 use Rattle.matching.proofs.part.agree.Given as goal
 
 -- the test of byte k

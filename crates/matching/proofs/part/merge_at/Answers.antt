@@ -1,5 +1,4 @@
 -- `matching::part::merge_at` meets its contract: both bytes are computed before either is stored. Assumes nothing.
-use borrow.Author.Rules.{rules}
 use native.Mathlib.Omega.{arith}
 use lib.ListN.{length-set}
 use Rattle.matching.proofs.part.merge_at.Goals as goal

@@ -1,5 +1,4 @@
 -- `matching::part::unite` meets its contract, by cases on the test. Assumes nothing.
-use borrow.Author.Rules.{rules}
 use mathlib.Core.Path.{sym, ◌∙◌}
 use Rattle.matching.proofs.part.unite.Goals as goal
 

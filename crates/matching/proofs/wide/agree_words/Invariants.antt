@@ -1,19 +1,12 @@
 -- `matching::wide::agree_words` meets its contract. The loop's invariant: plain and inverted are 0 where the bytes before j agree so. The measure is
 -- how many bytes are left. Assumes nothing.
-use borrow.Author.Tests.{eq-eqb, ne_eqb}
-use mathlib.Core.Path.{◌≡◌, refl, sym, ap, ap₂, ◌∙◌}
-use mathlib.Core.Bool.{Bool, true, false}
-use mathlib.Core.List.{[]}
-use Prim.Native.Nat.{ℕ, ◌+◌, ◌-◌, ◌%◌, ◌≤◌, zero-le}
-use native.Mathlib.Nat.{le_antisymm}
-use native.Mathlib.Omega.{arith}
-use lib.Bits.{bit_and, bit_xor}
+use mathlib.Core.Path.{◌≡◌}
+use mathlib.Core.Bool.{true, false}
+use Prim.Native.Nat.{◌+◌, ◌-◌, ◌%◌, ◌≤◌}
 use lib.Dec.{eqb}
 use lib.ListN.{take, drop}
 use Rattle.lists.specs.Lists.{all, up_to}
-use Rattle.matching.specs.Parts.{agree_part}
-use Rattle.matching.proofs.Linking.First.{plain-first, inverted-first, found_first, found-pass, found-last}
-use Rattle.matching.proofs.Wordwise.WholeWords.{byte_test, gathered, plain-words, inverted-words}
+use Rattle.matching.proofs.Wordwise.WholeWords.{byte_test}
 use Rattle.matching.proofs.wide.agree_words.Given as goal
 
 abbrev pub invariant-loop-j : goal.invariant-loop-j

@@ -1,5 +1,4 @@
 -- `matching::words::eight_bytes` meets its contract: every byte is below 256, so that no shift loses bits and no sum wraps. Assumes nothing.
-use borrow.Author.Rules.{rules}
 use Prim.Native.Nat.{◌+◌}
 use native.Mathlib.Omega.{arith}
 use Rattle.matching.proofs.Wordwise.Bytes.{word_sum}

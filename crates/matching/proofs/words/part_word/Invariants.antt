@@ -1,12 +1,9 @@
 -- `matching::words::part_word` meets its contract. The loop's invariant: x is the number of the bytes from byte j on. The measure is how many are
 -- left. Assumes nothing.
-use borrow.Author.Rules.{rules}
-use mathlib.Core.Path.{◌≡◌, ap, ap₂, ◌∙◌}
-use Prim.Native.Nat.{ℕ, ◌+◌, ◌*◌, ◌-◌, ◌%◌, ◌^◌, ◌≤◌, ◌<◌}
-use native.Mathlib.Omega.{arith}
-use lib.ListN.{get_or, take, drop}
+use mathlib.Core.Path.{◌≡◌}
+use Prim.Native.Nat.{◌+◌, ◌-◌, ◌≤◌}
+use lib.ListN.{take, drop}
 use Rattle.matching.specs.Inner.Words.{number_of}
-use Rattle.matching.proofs.Wordwise.Bytes.{word_below}
 use Rattle.matching.proofs.words.part_word.Given as goal
 
 abbrev pub invariant-loop-j : goal.invariant-loop-j

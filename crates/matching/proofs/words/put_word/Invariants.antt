@@ -1,15 +1,10 @@
 -- `matching::words::put_word` meets its contract. The loop's invariant: the first j bytes stand from byte a on, and rest has the others. The
 -- measure is how many are left. Assumes nothing.
-use borrow.Author.Rules.{rules}
-use mathlib.Core.Path.{◌≡◌, refl, sym, ap, ◌∙◌}
-use Prim.Native.Nat.{◌+◌, ◌-◌, ◌≤◌, zero-le}
-use native.Mathlib.Omega.{arith}
-use lib.ListN.{length, set, take, drop}
-use lib.Seq.{take_all}
+use mathlib.Core.Path.{◌≡◌}
+use Prim.Native.Nat.{◌-◌, ◌≤◌}
+use lib.ListN.{length, take, drop}
 use Rattle.lists.specs.Written.{splice}
-use Rattle.lists.proofs.Written.Splice.{splice-none, splice-more, length-splice-take}
 use Rattle.matching.specs.Inner.Words.{bytes_of}
-use Rattle.matching.proofs.Wordwise.Bytes.{length-bytes, rest-none, rest-byte, rest_more}
 use Rattle.matching.proofs.words.put_word.Given as goal
 
 abbrev pub invariant-loop-j : goal.invariant-loop-j

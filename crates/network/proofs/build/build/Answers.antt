@@ -1,10 +1,6 @@
 -- `network::build::build` meets its contract: each way it ends is a law of `BuildCases`.
 -- Assumes nothing.
-use borrow.Author.Rules.{rules}
 use Rattle.network.proofs.Building.BuildCases.{short-case, refused-case, small-case, ready, built-case}
-use Rattle.fill.proofs.fill_table.Reads as links-reads
-use Rattle.network.proofs.reading.lay_out.Reads as lay-out-reads
-use Rattle.network.proofs.build.with_network.Reads as with-network-reads
 use Rattle.network.proofs.build.build.Goals as goal
 
 pub returns-then-roots-lt-ROOTS : goal.returns-then-roots-lt-ROOTS

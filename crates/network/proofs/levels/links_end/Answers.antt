@@ -1,5 +1,4 @@
 use mathlib.Core.Path.{◌≡◌, ap, ◌∙◌}
-use Prim.Native.Nat.{◌≤◌, ◌-◌}
 use native.Mathlib.Omega.{arith}
 use Rattle.fill.proofs.Buffers.Sizes.{work-size, links-at}
 use Rattle.network.specs.Levels.{level_at}

@@ -1,11 +1,8 @@
 -- `network::levels::links_end` meets its contract: the end so far is where the level begins.
 -- Assumes nothing.
-use mathlib.Core.Path.{◌≡◌, ap, ◌∙◌}
+use mathlib.Core.Path.{◌≡◌}
 use Prim.Native.Nat.{◌≤◌, ◌-◌}
-use native.Mathlib.Omega.{arith}
-use Rattle.fill.proofs.Buffers.Sizes.{work-size, links-at}
 use Rattle.network.specs.Levels.{level_at}
-use Rattle.network.proofs.LinksRead.Offsets.{first-at, next-at, within}
 use Rattle.network.proofs.levels.links_end.Given as goal
 
 abbrev pub invariant-loop-p : goal.invariant-loop-p

@@ -1,6 +1,5 @@
 -- `network::levels::read_entry` meets its contract: the entry's two links are alike or not.
 -- Assumes nothing.
-use borrow.Author.Rules.{rules}
 use native.Mathlib.Omega.{arith}
 use mathlib.Core.Path.{◌≡◌}
 use Prim.Native.Nat.{◌+◌, ◌%◌}
@@ -9,11 +8,6 @@ use Rattle.fill.proofs.Buffers.Sizes.{work-size}
 use Rattle.network.specs.Levels.{made, entry_made}
 use Rattle.network.proofs.LinksRead.Entries.{entry_next, entry-alike, entry-unlike}
 use Rattle.network.proofs.LinksRead.LinkRefs.{opposite-small}
-use Rattle.network.proofs.levels.put_node.Reads as put-node-reads
-use Rattle.network.proofs.links.link_ref.Reads as link-ref-reads
-use Rattle.network.proofs.links.put_stored.Reads as put-stored-reads
-use Rattle.network.proofs.links.turned.Reads as turned-reads
-use Rattle.network.proofs.links.stored_at.Reads as stored-at-reads
 use Rattle.network.proofs.levels.read_entry.Goals as goal
 use Rattle.network.proofs.levels.read_entry.Goals.{Else-k-l}
 

@@ -1,9 +1,7 @@
 use mathlib.Core.Path.{◌≡◌, refl, ap, ◌∙◌}
-use Prim.Native.Nat.{◌≤◌, ◌-◌}
 use native.Mathlib.Omega.{arith}
 use Rattle.network.specs.Levels.{made, level_made}
 use Rattle.network.proofs.LinksRead.Entries.{turn-work, turn-cells, turn-next, turn-made}
-use Rattle.network.proofs.levels.read_entry.Reads as read-entry-reads
 use Rattle.network.proofs.levels.read_level.Goals as goal
 
 pub loop-j-init : goal.loop-j-init

@@ -1,11 +1,8 @@
 -- `network::levels::read_level` meets its contract: after j turns, what j entries make.
 -- Assumes nothing.
-use mathlib.Core.Path.{◌≡◌, refl, ap, ◌∙◌}
+use mathlib.Core.Path.{◌≡◌}
 use Prim.Native.Nat.{◌≤◌, ◌-◌}
-use native.Mathlib.Omega.{arith}
 use Rattle.network.specs.Levels.{made, level_made}
-use Rattle.network.proofs.LinksRead.Entries.{turn-work, turn-cells, turn-next, turn-made}
-use Rattle.network.proofs.levels.read_entry.Reads as read-entry-reads
 use Rattle.network.proofs.levels.read_level.Given as goal
 
 abbrev pub invariant-loop-j : goal.invariant-loop-j

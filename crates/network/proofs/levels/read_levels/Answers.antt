@@ -1,12 +1,10 @@
 use mathlib.Core.Path.{◌≡◌, sym, ap, ap₂, ◌∙◌}
-use Prim.Native.Nat.{◌≤◌, ◌-◌, ◌+◌, ◌*◌}
+use Prim.Native.Nat.{◌-◌, ◌+◌, ◌*◌}
 use native.Mathlib.Omega.{arith}
 use lib.ListN.{length, get_or}
-use Rattle.lists.specs.Sums.{sum_below}
-use Rattle.network.specs.Levels.{made, Made, level_at, levels_made}
+use Rattle.network.specs.Levels.{made, Made, levels_made}
 use Rattle.network.proofs.LinksRead.Offsets.{sum-above, at_above, at-rises}
 use Rattle.network.proofs.LinksRead.LevelTurns.{no-levels, turn_level, levels-work, levels-cells}
-use Rattle.network.proofs.levels.read_level.Reads as read-level-reads
 use Rattle.network.proofs.levels.read_levels.Goals as goal
 
 pub loop-p-init : goal.loop-p-init

@@ -1,14 +1,10 @@
 -- `network::levels::read_levels` meets its contract: from the lowest level up, what the levels below make.
 -- Assumes nothing.
-use mathlib.Core.Path.{◌≡◌, sym, ap, ap₂, ◌∙◌}
-use Prim.Native.Nat.{◌≤◌, ◌-◌, ◌+◌, ◌*◌}
-use native.Mathlib.Omega.{arith}
-use lib.ListN.{length, get_or}
+use mathlib.Core.Path.{◌≡◌}
+use Prim.Native.Nat.{◌≤◌, ◌-◌}
+use lib.ListN.{get_or}
 use Rattle.lists.specs.Sums.{sum_below}
-use Rattle.network.specs.Levels.{made, Made, level_at, levels_made}
-use Rattle.network.proofs.LinksRead.Offsets.{sum-above, at_above, at-rises}
-use Rattle.network.proofs.LinksRead.LevelTurns.{no-levels, turn_level, levels-work, levels-cells}
-use Rattle.network.proofs.levels.read_level.Reads as read-level-reads
+use Rattle.network.specs.Levels.{made, level_at, levels_made}
 use Rattle.network.proofs.levels.read_levels.Given as goal
 
 abbrev pub invariant-loop-p : goal.invariant-loop-p

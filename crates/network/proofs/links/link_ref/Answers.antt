@@ -7,8 +7,6 @@ use Rattle.diagram.specs.Networks.Diagram.{inverts, opposite}
 use mathlib.Core.Bool.{true}
 use Rattle.fill.proofs.Buffers.Sizes.{work-size}
 use Rattle.network.proofs.LinksRead.LinkRefs.{opposite-small, ref-constant, ref-entry}
-use Rattle.network.proofs.links.turned.Reads as turned-reads
-use Rattle.network.proofs.links.stored_at.Reads as stored-at-reads
 use Rattle.network.proofs.links.link_ref.Goals as goal
 
 pub returns-then-k-lt2 : goal.returns-then-k-lt2

@@ -1,6 +1,5 @@
 -- `network::links::turned` meets its contract: by whether the reference inverts.
 -- Assumes nothing.
-use borrow.Author.Rules.{rules}
 use mathlib.Core.Path.{sym}
 use borrow.Author.Tests.{not-true, not-false}
 use Rattle.network.proofs.LinksRead.LinkRefs.{opposite-plain, opposite-odd, opposite-even}

@@ -1,6 +1,5 @@
 -- `network::reading::lay_out` meets its contract: the levels are read, then the roots, and the work buffer is cleared.
 -- Assumes nothing.
-use borrow.Author.Rules.{rules}
 use mathlib.Core.Path.{sym, ap, ap₂, ◌∙◌}
 use mathlib.Core.List.{List}
 use Prim.Native.Nat.{ℕ, ◌+◌, ◌*◌}
@@ -11,9 +10,6 @@ use Rattle.fill.proofs.Buffers.Sizes.{work-size, links-at}
 use Rattle.lent.specs.Lent.{roots_size}
 use Rattle.network.specs.Levels.{root_at}
 use Rattle.network.proofs.LinksRead.Offsets.{first-at}
-use Rattle.network.proofs.levels.links_end.Reads as links-end-reads
-use Rattle.network.proofs.levels.read_levels.Reads as read-levels-reads
-use Rattle.network.proofs.roots.write_roots.Reads as write-roots-reads
 use Rattle.network.proofs.reading.lay_out.Goals as goal
 
 pub write_roots-requires : goal.write_roots-requires

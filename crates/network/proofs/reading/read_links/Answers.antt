@@ -1,6 +1,5 @@
 -- `network::reading::read_links` meets its contract: each way it ends is a law of `ReadCases`.
 -- Assumes nothing.
-use borrow.Author.Rules.{rules}
 use Rattle.network.proofs.LinksRead.ReadCases.{short-case, refused-case, small-case, ready, read-case}
 use Rattle.network.proofs.reading.read_links.Goals as goal
 

@@ -6,8 +6,6 @@ use Prim.Native.Nat.{◌+◌, ◌*◌}
 use Rattle.fill.proofs.Buffers.Sizes.{links-at}
 use Rattle.network.specs.Levels.{stored_at, ref_at}
 use Rattle.network.proofs.LinksRead.RootTurns.{root-past, root-link}
-use Rattle.network.proofs.links.link_ref.Reads as link-ref-reads
-use Rattle.network.proofs.links.stored_at.Reads as stored-at-reads
 use Rattle.network.proofs.roots.root_of.Goals as goal
 
 pub returns-then-m-j : goal.returns-then-m-j

@@ -1,5 +1,4 @@
 use mathlib.Core.Path.{◌≡◌, refl, sym, ap, ◌∙◌}
-use Prim.Native.Nat.{◌≤◌, ◌-◌}
 use native.Mathlib.Omega.{arith}
 use lib.ListN.{length}
 use Rattle.lists.specs.Written.{over}
@@ -7,7 +6,6 @@ use Rattle.lists.proofs.Written.Over.{over-next, length_over}
 use Rattle.diagram.specs.Networks.Bound.{most_outputs}
 use Rattle.lent.proofs.Sizes.{roots-size}
 use Rattle.network.specs.Levels.{root_at}
-use Rattle.network.proofs.roots.root_of.Reads as root-of-reads
 use Rattle.network.proofs.roots.write_roots.Goals as goal
 
 pub loop-j-init : goal.loop-j-init

@@ -1,15 +1,10 @@
 -- `network::roots::write_roots` meets its contract: the roots so far are written over those lent.
 -- Assumes nothing.
-use mathlib.Core.Path.{◌≡◌, refl, sym, ap, ◌∙◌}
+use mathlib.Core.Path.{◌≡◌}
 use Prim.Native.Nat.{◌≤◌, ◌-◌}
-use native.Mathlib.Omega.{arith}
-use lib.ListN.{length}
 use Rattle.lists.specs.Written.{over}
-use Rattle.lists.proofs.Written.Over.{over-next, length_over}
 use Rattle.diagram.specs.Networks.Bound.{most_outputs}
-use Rattle.lent.proofs.Sizes.{roots-size}
 use Rattle.network.specs.Levels.{root_at}
-use Rattle.network.proofs.roots.root_of.Reads as root-of-reads
 use Rattle.network.proofs.roots.write_roots.Given as goal
 
 abbrev pub invariant-loop-j : goal.invariant-loop-j

@@ -1,6 +1,5 @@
 -- `network_file::blocks::write_block` meets its contract: the content, then the check of its sum.
 -- Assumes nothing.
-use borrow.Author.Rules.{rules}
 use Rattle.network_file.proofs.Writing.WrittenBlocks.{check-next}
 use Rattle.network_file.proofs.blocks.write_block.Goals as goal
 

@@ -1,15 +1,10 @@
 -- `network_file::blocks::write_blocks` meets its contract. The loop's invariant: the blocks before block k are written.
 -- Assumes nothing.
-use mathlib.Core.Path.{◌≡◌, refl, ap, ◌∙◌}
-use Prim.Native.Nat.{ℕ, suc, ◌+◌, ◌*◌, ◌-◌, ◌≤◌}
-use native.Mathlib.Omega.{arith}
-use lib.ListN.{length}
+use mathlib.Core.Path.{◌≡◌}
+use Prim.Native.Nat.{suc, ◌*◌, ◌-◌, ◌≤◌}
 use Rattle.lists.specs.Written.{over}
-use Rattle.lists.proofs.Written.Over.{length_over}
 use Rattle.block.specs.Block.{block_size}
 use Rattle.network_file.specs.Write.{file_byte}
-use Rattle.network_file.proofs.Format.FileSizes.{file-size, cell-blocks-most}
-use Rattle.network_file.proofs.Writing.WrittenBlocks.{over-further, over-already}
 use Rattle.network_file.proofs.blocks.write_blocks.Given as goal
 
 abbrev pub invariant-loop-k : goal.invariant-loop-k

@@ -1,18 +1,12 @@
 -- `network_file::blocks::write_content` meets its contract. The loop's invariant: the block is written as far as byte i, and its bytes so far
 -- are in the sum.
 -- Assumes nothing.
-use mathlib.Core.Path.{◌≡◌, refl, ap, ◌∙◌}
-use Prim.Native.Nat.{ℕ, suc, ◌+◌, ◌*◌, ◌-◌, ◌≤◌}
-use native.Mathlib.Omega.{arith}
-use lib.ListN.{length}
+use mathlib.Core.Path.{◌≡◌}
+use Prim.Native.Nat.{suc, ◌+◌, ◌*◌, ◌-◌, ◌≤◌}
 use Rattle.lists.specs.Sums.{sum_below}
 use Rattle.lists.specs.Written.{over}
-use Rattle.lists.proofs.Numbers.Sums.{sum_more}
-use Rattle.lists.proofs.Written.Over.{length_over}
 use Rattle.block.specs.Block.{block_size, check_at}
 use Rattle.network_file.specs.Write.{block_content, file_byte}
-use Rattle.network_file.specs.Inner.Writable.{block_sum}
-use Rattle.network_file.proofs.Writing.WrittenBlocks.{content-next}
 use Rattle.network_file.proofs.blocks.write_content.Given as goal
 
 abbrev pub invariant-loop-i : goal.invariant-loop-i

@@ -1,6 +1,5 @@
 -- `network_file::content::content_byte` meets its contract.
 -- Assumes nothing.
-use borrow.Author.Rules.{rules}
 use mathlib.Core.Path.{sym, ◌∙◌}
 use borrow.Author.Tests.{eq-eqb, ne_eqb}
 use Rattle.network_file.specs.Write.{heading_byte, cells_byte}

@@ -1,6 +1,5 @@
 -- `network_file::content::front_byte` meets its contract.
 -- Assumes nothing.
-use borrow.Author.Rules.{rules}
 use native.Mathlib.Omega.{arith}
 use borrow.Author.Tests.{eq-eqb, ne_eqb, lt-ltb}
 use Rattle.block.specs.Block.{content_at}

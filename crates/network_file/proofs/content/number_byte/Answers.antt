@@ -1,6 +1,5 @@
 -- `network_file::content::number_byte` meets its contract.
 -- Assumes nothing.
-use borrow.Author.Rules.{rules}
 use borrow.Author.Tests.{eq-eqb, ne_eqb}
 use Rattle.network_file.proofs.content.number_byte.Goals as goal
 

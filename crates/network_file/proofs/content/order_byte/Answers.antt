@@ -1,6 +1,5 @@
 -- `network_file::content::order_byte` meets its contract: an entry of an order is below n, so it fits a byte.
 -- Assumes nothing.
-use borrow.Author.Rules.{rules}
 use native.Mathlib.Omega.{arith}
 use Rattle.lent.proofs.Following.{variable-below}
 use Rattle.network_file.proofs.content.order_byte.Goals as goal

@@ -1,11 +1,8 @@
 -- `network_file::copy::copy_cells` meets its contract: the numbers so far are written over those lent.
 -- Assumes nothing.
-use mathlib.Core.Path.{◌≡◌, refl, ap, ◌∙◌}
+use mathlib.Core.Path.{◌≡◌}
 use Prim.Native.Nat.{◌*◌, ◌≤◌, ◌-◌}
-use native.Mathlib.Omega.{arith}
-use lib.ListN.{length}
 use Rattle.lists.specs.Written.{over}
-use Rattle.lists.proofs.Written.Over.{over-next, length_over}
 use Rattle.network_file.specs.File.{cell_number}
 use Rattle.network_file.proofs.copy.copy_cells.Given as goal
 

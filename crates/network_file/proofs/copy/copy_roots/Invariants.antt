@@ -1,13 +1,9 @@
 -- `network_file::copy::copy_roots` meets its contract: the roots so far are written over those lent.
 -- Assumes nothing.
-use mathlib.Core.Path.{◌≡◌, refl, sym, ap, ◌∙◌}
+use mathlib.Core.Path.{◌≡◌}
 use Prim.Native.Nat.{◌≤◌, ◌-◌}
-use native.Mathlib.Omega.{arith}
-use lib.ListN.{length}
 use Rattle.lists.specs.Written.{over}
-use Rattle.lists.proofs.Written.Over.{over-next, length_over}
 use Rattle.diagram.specs.Networks.Bound.{most_outputs}
-use Rattle.lent.proofs.Sizes.{roots-size}
 use Rattle.network_file.specs.File.{file_root}
 use Rattle.network_file.proofs.copy.copy_roots.Given as goal
 

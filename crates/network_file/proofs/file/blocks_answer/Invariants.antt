@@ -1,13 +1,9 @@
 -- `network_file::file::blocks_answer` meets its contract. The loop's invariant: the answer is that of the blocks from block k on.
 -- Assumes nothing.
-use mathlib.Core.Path.{◌≡◌, sym, ap, ◌∙◌}
+use mathlib.Core.Path.{◌≡◌}
 use Prim.Native.Nat.{suc, ◌-◌, ◌≤◌}
-use borrow.Author.Tests.{not-true, not-false}
-use native.Mathlib.Omega.{arith}
-use Rattle.table.specs.Answer.{done, first_refusal}
-use Rattle.table.proofs.Files.Answers.{refusal-next, refusal-stop, refusal-end}
+use Rattle.table.specs.Answer.{first_refusal}
 use Rattle.network_file.specs.File.{cells_block}
-use Rattle.network_file.proofs.Reading.BlockRead.{read-further}
 use Rattle.network_file.proofs.file.blocks_answer.Given as goal
 
 abbrev pub invariant-loop-k : goal.invariant-loop-k

@@ -1,6 +1,5 @@
 -- `network_file::file::cells_answer` meets its contract: the block total, then the blocks.
 -- Assumes nothing.
-use borrow.Author.Rules.{rules}
 use native.Mathlib.Omega.{arith}
 use Rattle.network_file.proofs.Format.FileSizes.{few-blocks}
 use Rattle.network_file.proofs.Reading.BlockRead.{wrong-total, right-total}

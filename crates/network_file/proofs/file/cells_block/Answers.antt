@@ -3,7 +3,6 @@
 use mathlib.Core.Path.{◌≡◌, sym, ap, ◌∙◌}
 use Prim.Native.Nat.{ℕ, ◌+◌, ◌*◌}
 use borrow.Author.Tests.{eq-eqb, ne_eqb, not-true, not-false}
-use borrow.Author.Rules.{rules}
 use Rattle.block.specs.Block.{content_at, unused_zero}
 use Rattle.network_file.specs.File.{carried_numbers}
 use Rattle.network_file.specs.Inner.Reader.{cells_tail}

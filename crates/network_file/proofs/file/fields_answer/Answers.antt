@@ -2,7 +2,6 @@
 -- Assumes nothing.
 use mathlib.Core.Path.{sym, ap, ◌∙◌}
 use borrow.Author.Tests.{not-true, not-false}
-use borrow.Author.Rules.{rules}
 use Rattle.table.specs.Answer.{done}
 use Rattle.network_file.specs.Inner.Reader.{heading_fields}
 use Rattle.network_file.proofs.file.fields_answer.Goals as goal

@@ -2,7 +2,6 @@
 -- Assumes nothing.
 use mathlib.Core.Path.{sym, ◌∙◌}
 use borrow.Author.Tests.{eq-eqb, ne_eqb, not-true, not-false}
-use borrow.Author.Rules.{rules}
 use Rattle.network_file.proofs.file.heading_answer.Goals as goal
 
 pub returns-then-k-ne0 : goal.returns-then-k-ne0

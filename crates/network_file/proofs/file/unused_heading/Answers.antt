@@ -4,7 +4,6 @@ use mathlib.Core.Path.{◌≡◌, sym, ap, ◌∙◌}
 use mathlib.Core.Bool.{true}
 use Prim.Native.Nat.{ℕ, ◌+◌, ◌*◌}
 use borrow.Author.Tests.{not-true, not-false}
-use borrow.Author.Rules.{rules}
 use Rattle.block.specs.Block.{unused_between, unused_zero}
 use Rattle.table.specs.File.{file_inputs, file_outputs}
 use Rattle.network_file.specs.File.{count_at, roots_at, unused_heading}

@@ -3,7 +3,6 @@
 use mathlib.Core.Path.{◌≡◌, sym, ap₂, ◌∙◌}
 use mathlib.Core.Bool.{true}
 use Prim.Native.Nat.{ℕ}
-use borrow.Author.Rules.{rules}
 use borrow.Author.Tests.{not-true, not-false}
 use Rattle.diagram.specs.Networks.Diagram.{well_formed}
 use Rattle.lent.specs.Lent.{diagram_by}

@@ -1,14 +1,11 @@
 -- `network_file::good::nodes_good` meets its contract: the cells below i are good, and the loop ends at the first that is not, or past the
 -- last.
 -- Assumes nothing.
-use borrow.Author.Rules.{rules}
-use mathlib.Core.Path.{◌≡◌, refl, sym, ◌∙◌}
+use mathlib.Core.Path.{◌≡◌}
 use mathlib.Core.Bool.{true}
 use Prim.Native.Nat.{◌≤◌, ◌-◌}
-use borrow.Author.Tests.{not-true, not-false}
 use Rattle.lists.specs.Lists.{all, up_to}
-use Rattle.lists.proofs.Numbers.Compared.{all-up_to-more}
-use Rattle.lent.proofs.Tested.{good_node, nodes-bad, nodes-good}
+use Rattle.lent.proofs.Tested.{good_node}
 use Rattle.network_file.specs.File.{cell_number}
 use Rattle.network_file.proofs.good.nodes_good.Given as goal
 

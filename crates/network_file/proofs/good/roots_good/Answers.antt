@@ -1,9 +1,6 @@
 use borrow.Author.Rules.{rules}
-use mathlib.Core.Path.{◌≡◌, refl, sym}
-use mathlib.Core.Bool.{true}
-use Prim.Native.Nat.{◌≤◌, ◌-◌}
-use Rattle.lists.specs.Lists.{all, up_to}
-use Rattle.lent.proofs.Tested.{own_root, roots-bad, roots-more, roots-good}
+use mathlib.Core.Path.{refl, sym}
+use Rattle.lent.proofs.Tested.{roots-bad, roots-more, roots-good}
 use Rattle.network_file.specs.File.{file_root, cell_number}
 use Rattle.network_file.proofs.good.roots_good.Goals as goal
 

@@ -1,12 +1,11 @@
 -- `network_file::good::roots_good` meets its contract: the roots below j are the diagram's own, and the loop ends at the first that is not, or
 -- past the last of m.
 -- Assumes nothing.
-use borrow.Author.Rules.{rules}
-use mathlib.Core.Path.{◌≡◌, refl, sym}
+use mathlib.Core.Path.{◌≡◌}
 use mathlib.Core.Bool.{true}
 use Prim.Native.Nat.{◌≤◌, ◌-◌}
 use Rattle.lists.specs.Lists.{all, up_to}
-use Rattle.lent.proofs.Tested.{own_root, roots-bad, roots-more, roots-good}
+use Rattle.lent.proofs.Tested.{own_root}
 use Rattle.network_file.specs.File.{file_root, cell_number}
 use Rattle.network_file.proofs.good.roots_good.Given as goal
 

@@ -2,7 +2,6 @@
 -- Assumes nothing.
 use mathlib.Core.Path.{sym, ◌∙◌}
 use borrow.Author.Tests.{not-true, not-false}
-use borrow.Author.Rules.{rules}
 use Rattle.network_file.proofs.Reading.ReadCall.{refusal, readable, reading}
 use Rattle.network_file.proofs.read.read_cells.Goals as goal
 

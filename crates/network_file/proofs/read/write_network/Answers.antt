@@ -2,7 +2,6 @@
 -- Assumes nothing.
 use mathlib.Core.Path.{◌≡◌, ap, ◌∙◌}
 use Prim.Native.Nat.{ℕ, ◌*◌}
-use borrow.Author.Rules.{rules}
 use Rattle.lists.specs.Written.{over}
 use Rattle.table.specs.declared.State.{State}
 use Rattle.lent.specs.Tabulate.{tabulate_values, tabulate_care}

@@ -1,6 +1,5 @@
 -- `network_file::sizes::blocks_for` meets its contract.
 -- Assumes nothing.
-use borrow.Author.Rules.{rules}
 use mathlib.Core.Path.{refl}
 use Rattle.network_file.specs.File.{cell_blocks}
 use Rattle.network_file.proofs.sizes.blocks_for.Goals as goal

@@ -1,7 +1,6 @@
 -- `network_file::verify::few_answer` meets its contract: the numbers copied to have room for the copy.
 -- Assumes nothing.
 use native.Mathlib.Omega.{arith}
-use borrow.Author.Rules.{rules}
 use Rattle.lent.proofs.Sizes.{roots-size}
 use Rattle.network_file.proofs.verify.few_answer.Goals as goal
 

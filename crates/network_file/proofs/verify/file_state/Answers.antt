@@ -1,6 +1,5 @@
 -- `network_file::verify::file_state` meets its contract.
 -- Assumes nothing.
-use borrow.Author.Rules.{rules}
 use Rattle.network_file.proofs.Reading.ReadState.{state-read}
 use Rattle.network_file.proofs.verify.file_state.Goals as goal
 

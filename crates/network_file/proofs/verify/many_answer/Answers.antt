@@ -4,7 +4,6 @@ use mathlib.Core.Path.{◌≡◌, sym, ap₂, ◌∙◌}
 use mathlib.Core.Bool.{true}
 use Prim.Native.Nat.{ℕ}
 use native.Mathlib.Omega.{arith}
-use borrow.Author.Rules.{rules}
 use Rattle.diagram.specs.Networks.Diagram.{well_formed}
 use Rattle.table.specs.File.{file_inputs, file_outputs}
 use Rattle.network_file.specs.File.{file_diagram}

@@ -1,7 +1,6 @@
 -- `network_file::work::clear_after` meets its contract.
 -- Assumes nothing.
 use mathlib.Core.Path.{sym, ◌∙◌}
-use borrow.Author.Rules.{rules}
 use Rattle.network_file.proofs.work.clear_after.Goals as goal
 
 pub returns-then-clears_work : goal.returns-then-clears_work

@@ -1,6 +1,5 @@
 -- `network_file::work::clears_work` meets its contract: 0, 23, 32.
 -- Assumes nothing.
-use borrow.Author.Rules.{rules}
 use borrow.Author.Tests.{eq-eqb, ne_eqb}
 use Rattle.network_file.proofs.work.clears_work.Goals as goal
 

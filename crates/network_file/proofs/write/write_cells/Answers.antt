@@ -1,6 +1,5 @@
 -- `network_file::write::write_cells` meets its contract: each return by the tests that led there.
 -- Assumes nothing.
-use borrow.Author.Rules.{rules}
 use mathlib.Core.Path.{sym, ap, ◌∙◌}
 use Prim.Native.Nat.{◌≤◌}
 use native.Mathlib.Omega.{arith}

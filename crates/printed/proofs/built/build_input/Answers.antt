@@ -1,7 +1,6 @@
 -- `printed::built::build_input` meets its contract.
 -- Assumes nothing.
 use mathlib.Core.Path.{sym, ◌∙◌}
-use borrow.Author.Rules.{rules}
 use borrow.Author.Tests.{not-true, not-false}
 use Rattle.printed.proofs.Inputs.BuiltCases.{unread, built}
 use Rattle.printed.proofs.built.build_input.Goals as goal

@@ -1,6 +1,5 @@
 -- `printed::output::print_input` meets its contract.
 -- Assumes nothing.
-use borrow.Author.Rules.{rules}
 use Rattle.text.proofs.Writing.{written_as}
 use Rattle.printed.proofs.Texts.OutputCases.{printed-of}
 use Rattle.printed.proofs.output.print_input.Goals as goal

@@ -1,7 +1,6 @@
 -- `printed::output::print_outcome` meets its contract.
 -- Assumes nothing.
 use mathlib.Core.Path.{sym, ◌∙◌}
-use borrow.Author.Rules.{rules}
 use borrow.Author.Tests.{not-true, not-false}
 use Rattle.printed.proofs.Texts.OutputCases.{written-unbuilt, written-built}
 use Rattle.printed.proofs.output.print_outcome.Goals as goal

@@ -1,6 +1,5 @@
 -- `reorder::gather::digit_within` meets its contract.
 -- Assumes nothing.
-use borrow.Author.Rules.{rules}
 use mathlib.Core.Path.{refl}
 use native.Mathlib.Omega.{arith}
 use Rattle.lists.proofs.Bits.Masks.{mask_below}

@@ -1,16 +1,10 @@
 -- `reorder::gather::gather` meets its contract. The invariant: of each plane i bytes are written, and the other bytes are as they were.
 -- Assumes nothing.
-use borrow.Author.Rules.{rules}
-use mathlib.Core.Path.{◌≡◌, refl, ap, ap₂, ◌∙◌}
-use mathlib.Core.List.{List}
-use Prim.Native.Nat.{ℕ, ◌+◌, ◌^◌, ◌≤◌, ◌-◌, min}
-use native.Mathlib.Nat.{min-le_left, min-le_right}
-use native.Mathlib.Omega.{arith}
-use lib.ListN.{length, set, length-set}
-use Rattle.reorder.specs.Sizes.{width}
+use mathlib.Core.Path.{◌≡◌}
+use Prim.Native.Nat.{◌≤◌, ◌-◌}
+use lib.ListN.{length}
 use Rattle.reorder.specs.Gather.{gathered_byte}
-use Rattle.reorder.proofs.WrittenBytes.{written_both, both-none, both-more, both-all}
-use Rattle.reorder.proofs.Shifts.{byte-within, width-met}
+use Rattle.reorder.proofs.WrittenBytes.{written_both}
 use Rattle.reorder.proofs.gather.gather.Given as goal
 
 abbrev pub invariant-loop-i : goal.invariant-loop-i

@@ -1,14 +1,7 @@
 -- `reorder::gather::gather_bytes` meets its contract. The invariant: both bytes have their b lowest bits.
 -- Assumes nothing.
-use borrow.Author.Rules.{rules}
-use mathlib.Core.Path.{◌≡◌, ap, ◌∙◌}
-use mathlib.Core.Bool.{Bool}
-use mathlib.Core.List.{List}
-use Prim.Native.Nat.{ℕ, ◌+◌, ◌*◌, ◌≤◌, ◌<◌, ◌-◌}
-use native.Mathlib.Omega.{arith}
-use lib.ListN.{get_or}
-use Rattle.lists.proofs.Bits.Packed.{bit-more}
-use Rattle.block.specs.Bits.{stream_bit}
+use mathlib.Core.Path.{◌≡◌}
+use Prim.Native.Nat.{◌≤◌, ◌-◌}
 use Rattle.reorder.specs.Gather.{gathered_byte}
 use Rattle.reorder.proofs.gather.gather_bytes.Given as goal
 

@@ -1,11 +1,9 @@
 -- `reorder::rows::double` meets its contract. The invariant: s rows are written after the first, and the others are as they were.
 -- Assumes nothing.
-use borrow.Author.Rules.{rules}
-use mathlib.Core.Path.{◌≡◌, refl, ap, ◌∙◌}
-use Prim.Native.Nat.{ℕ, ◌+◌, ◌-◌, ◌≤◌, ◌<◌}
-use native.Mathlib.Omega.{arith}
-use lib.ListN.{length, get_or, length-set}
-use Rattle.reorder.proofs.WrittenBytes.{written_from, from-none, from_more, from-below}
+use mathlib.Core.Path.{◌≡◌}
+use Prim.Native.Nat.{◌+◌, ◌-◌, ◌≤◌}
+use lib.ListN.{length, get_or}
+use Rattle.reorder.proofs.WrittenBytes.{written_from}
 use Rattle.reorder.proofs.rows.double.Given as goal
 
 abbrev pub invariant-loop-s : goal.invariant-loop-s

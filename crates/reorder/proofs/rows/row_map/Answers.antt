@@ -1,12 +1,10 @@
 use borrow.Author.Rules.{rules}
 use mathlib.Core.Path.{◌≡◌, sym, ap, ◌∙◌}
-use mathlib.Core.List.{List}
-use Prim.Native.Nat.{ℕ, ◌*◌, ◌-◌, ◌%◌, ◌^◌, ◌≤◌}
+use Prim.Native.Nat.{ℕ, ◌*◌, ◌%◌, ◌^◌}
 use native.Mathlib.Omega.{arith}
 use lib.ListN.{length, replicate}
 use Rattle.lists.proofs.Bits.Digits.{one_shifted}
 use Rattle.reorder.specs.Sizes.{most_rows}
-use Rattle.reorder.specs.Inner.Rows.{row_shares}
 use Rattle.reorder.proofs.Shifts.{most-rows}
 use Rattle.reorder.proofs.Gathered.{map-past, map-filled}
 use Rattle.reorder.proofs.Doubled.{rows_to, length-rows, rows-first, rows-within, next-room, rows_more}

@@ -1,18 +1,11 @@
 -- `reorder::rows::row_map` meets its contract. The invariant: the map has the rows of the lowest l bits, and is otherwise zero. The order
 -- is gone by then, so it holds of any order that has these shares.
 -- Assumes nothing.
-use borrow.Author.Rules.{rules}
-use mathlib.Core.Path.{◌≡◌, sym, ap, ◌∙◌}
+use mathlib.Core.Path.{◌≡◌}
 use mathlib.Core.List.{List}
-use Prim.Native.Nat.{ℕ, ◌*◌, ◌-◌, ◌%◌, ◌^◌, ◌≤◌}
-use native.Mathlib.Omega.{arith}
-use lib.ListN.{length, replicate}
-use Rattle.lists.proofs.Bits.Digits.{one_shifted}
-use Rattle.reorder.specs.Sizes.{most_rows}
+use Prim.Native.Nat.{ℕ, ◌-◌, ◌≤◌}
 use Rattle.reorder.specs.Inner.Rows.{row_shares}
-use Rattle.reorder.proofs.Shifts.{most-rows}
-use Rattle.reorder.proofs.Gathered.{map-past, map-filled}
-use Rattle.reorder.proofs.Doubled.{rows_to, length-rows, rows-first, rows-within, next-room, rows_more}
+use Rattle.reorder.proofs.Doubled.{rows_to}
 use Rattle.reorder.proofs.rows.row_map.Given as goal
 
 abbrev pub invariant-loop-l : goal.invariant-loop-l

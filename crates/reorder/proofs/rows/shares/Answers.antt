@@ -1,8 +1,8 @@
 use borrow.Author.Rules.{rules}
 use mathlib.Core.Path.{◌≡◌, refl, ap, ◌∙◌}
-use Prim.Native.Nat.{suc, ◌*◌, ◌-◌, ◌%◌, ◌^◌, ◌≤◌}
+use Prim.Native.Nat.{suc, ◌*◌, ◌-◌, ◌%◌, ◌^◌}
 use native.Mathlib.Omega.{arith}
-use Rattle.reorder.proofs.Shares.{level_bit, shares_of, shares-none, shares-more, shares-room, shares-all}
+use Rattle.reorder.proofs.Shares.{level_bit, shares-none, shares-more, shares-room, shares-all}
 use Rattle.reorder.proofs.rows.shares.Goals as goal
 use Rattle.reorder.proofs.rows.shares.Goals.{After-level_bit-l}
 

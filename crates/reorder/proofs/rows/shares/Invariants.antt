@@ -1,10 +1,8 @@
 -- `reorder::rows::shares` meets its contract. The invariant: the shares are those of the variables below v.
 -- Assumes nothing.
-use borrow.Author.Rules.{rules}
-use mathlib.Core.Path.{◌≡◌, refl, ap, ◌∙◌}
-use Prim.Native.Nat.{suc, ◌*◌, ◌-◌, ◌%◌, ◌^◌, ◌≤◌}
-use native.Mathlib.Omega.{arith}
-use Rattle.reorder.proofs.Shares.{level_bit, shares_of, shares-none, shares-more, shares-room, shares-all}
+use mathlib.Core.Path.{◌≡◌}
+use Prim.Native.Nat.{◌-◌, ◌≤◌}
+use Rattle.reorder.proofs.Shares.{shares_of}
 use Rattle.reorder.proofs.rows.shares.Given as goal
 
 abbrev pub invariant-loop-v : goal.invariant-loop-v

@@ -1,6 +1,5 @@
 -- `reorder::width::rows_in` meets its contract.
 -- Assumes nothing.
-use borrow.Author.Rules.{rules}
 use Rattle.reorder.proofs.Shifts.{rows_few, rows-eight}
 use Rattle.reorder.proofs.width.rows_in.Goals as goal
 

@@ -1,5 +1,4 @@
 -- `reorder::width::width_of` meets its contract: from three variables on a width is a power of two. Assumes nothing.
-use borrow.Author.Rules.{rules}
 use mathlib.Core.Path.{sym, ◌∙◌}
 use native.Mathlib.Omega.{arith}
 use Rattle.reorder.proofs.Pack.{width_small}

@@ -1,6 +1,5 @@
 -- `rowlog::care::care_bit` meets its contract: past the stream nothing, else by the count of the row.
 -- Assumes nothing.
-use borrow.Author.Rules.{rules}
 use mathlib.Core.Path.{sym}
 use native.Mathlib.Omega.{arith}
 use lib.Pow.{pow_pos}

@@ -1,16 +1,9 @@
 -- `rowlog::care::care_byte` meets its contract. The invariant: the byte has its b lowest bits.
 -- Assumes nothing.
-use borrow.Author.Rules.{rules}
-use mathlib.Core.Path.{◌≡◌, refl, sym, ap, ◌∙◌}
-use mathlib.Core.Bool.{Bool}
-use mathlib.Core.Logic.{⊎_elim}
-use Prim.Native.Nat.{ℕ, ◌+◌, ◌*◌, ◌≤◌, ◌-◌}
-use native.Mathlib.Omega.{arith}
+use mathlib.Core.Path.{◌≡◌}
+use Prim.Native.Nat.{◌+◌, ◌*◌, ◌≤◌, ◌-◌}
 use Rattle.lists.specs.Bits.{packed}
-use Rattle.lists.proofs.Bits.Packed.{bit-set, bit-clear}
-use Rattle.table.proofs.Planes.PlaneSize.{plane-size}
 use Rattle.rowlog.specs.Inner.Care.{care_bit}
-use Rattle.rowlog.proofs.Caring.{byte-of-bits}
 use Rattle.rowlog.proofs.care.care_byte.Given as goal
 
 abbrev pub invariant-loop-b : goal.invariant-loop-b

@@ -1,9 +1,6 @@
-use mathlib.Core.Path.{◌≡◌, refl}
-use Prim.Native.Nat.{◌-◌, ◌≤◌}
+use mathlib.Core.Path.{refl}
 use native.Mathlib.Omega.{arith}
-use Rattle.lists.specs.Written.{over}
 use Rattle.lists.proofs.Written.Over.{over-next}
-use Rattle.table.specs.Calls.{plane_size}
 use Rattle.table.proofs.Planes.PlaneSize.{plane-size, plane-length, plane-whole}
 use Rattle.rowlog.specs.Inner.Care.{counted_byte}
 use Rattle.rowlog.proofs.care.write_care.Goals as goal

@@ -1,12 +1,9 @@
 -- `rowlog::care::write_care` meets its contract. The loop's invariant: the plane is written over as far as byte i.
 -- Assumes nothing.
-use mathlib.Core.Path.{◌≡◌, refl}
+use mathlib.Core.Path.{◌≡◌}
 use Prim.Native.Nat.{◌-◌, ◌≤◌}
-use native.Mathlib.Omega.{arith}
 use Rattle.lists.specs.Written.{over}
-use Rattle.lists.proofs.Written.Over.{over-next}
 use Rattle.table.specs.Calls.{plane_size}
-use Rattle.table.proofs.Planes.PlaneSize.{plane-size, plane-length, plane-whole}
 use Rattle.rowlog.specs.Inner.Care.{counted_byte}
 use Rattle.rowlog.proofs.care.write_care.Given as goal
 

@@ -1,12 +1,10 @@
-use borrow.Author.Rules.{rules}
 use mathlib.Core.Path.{◌≡◌, refl, ap, ◌∙◌}
 use mathlib.Core.List.{List}
-use Prim.Native.Nat.{ℕ, ◌+◌, ◌-◌, ◌≤◌}
+use Prim.Native.Nat.{ℕ, ◌+◌}
 use native.Mathlib.Omega.{arith}
 use lib.ListN.{length, get_or, set, take}
 use lib.Seq.{take-length}
 use Rattle.lists.specs.Written.{over}
-use Rattle.lists.proofs.Written.Over.{length_over}
 use Rattle.rowlog.specs.Log.{seen}
 use Rattle.rowlog.proofs.Counting.{seen-room, row_within, counted-at, counted-length, counted_next, counted_none}
 use Rattle.rowlog.proofs.counts.count_rows.Goals as goal

@@ -1,6 +1,5 @@
 -- `rowlog::counts::has_room` meets its contract: by what is left when the sum is taken.
 -- Assumes nothing.
-use borrow.Author.Rules.{rules}
 use Rattle.rowlog.proofs.Counting.{room-none, room-left}
 use Rattle.rowlog.proofs.counts.has_room.Goals as goal
 

@@ -1,6 +1,5 @@
 -- `rowlog::counts::lent_count` meets its contract: each count of 32 bits is at most `most_records`, and past the end there is none.
 -- Assumes nothing.
-use borrow.Author.Rules.{rules}
 use mathlib.Core.Path.{refl, sym}
 use native.Mathlib.Omega.{arith}
 use lib.ListN.{get_or-eq_default}

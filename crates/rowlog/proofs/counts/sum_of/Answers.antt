@@ -1,11 +1,8 @@
-use borrow.Author.Rules.{rules}
 use mathlib.Core.Path.{◌≡◌, refl, ap, ◌∙◌}
-use Prim.Native.Nat.{◌*◌, ◌-◌, ◌≤◌}
 use native.Mathlib.Omega.{arith}
 use lib.ListN.{get_or}
 use Rattle.lists.specs.Sums.{sum_below}
 use Rattle.lists.proofs.Numbers.Sums.{sum_more}
-use Rattle.rowlog.specs.Log.{most_records}
 use Rattle.rowlog.proofs.counts.sum_of.Goals as goal
 
 pub loop-i-init : goal.loop-i-init

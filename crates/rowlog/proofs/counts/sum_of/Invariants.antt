@@ -1,12 +1,9 @@
 -- `rowlog::counts::sum_of` meets its contract. The invariant: the sum of the first i counts, each at most `most_records`.
 -- Assumes nothing.
-use borrow.Author.Rules.{rules}
-use mathlib.Core.Path.{◌≡◌, refl, ap, ◌∙◌}
+use mathlib.Core.Path.{◌≡◌}
 use Prim.Native.Nat.{◌*◌, ◌-◌, ◌≤◌}
-use native.Mathlib.Omega.{arith}
 use lib.ListN.{get_or}
 use Rattle.lists.specs.Sums.{sum_below}
-use Rattle.lists.proofs.Numbers.Sums.{sum_more}
 use Rattle.rowlog.specs.Log.{most_records}
 use Rattle.rowlog.proofs.counts.sum_of.Given as goal
 

@@ -1,6 +1,5 @@
 -- `rowlog::log::log_answer` meets its contract: each return by the tests that led there.
 -- Assumes nothing.
-use borrow.Author.Rules.{rules}
 use mathlib.Core.Path.{◌≡◌, sym, ap, ◌∙◌}
 use mathlib.Core.Bool.{true, not}
 use mathlib.Core.List.{List}

@@ -1,6 +1,5 @@
 -- `rowlog::log::log_rows` meets its contract: a refusal leaves all as found, and where none is due the rows are counted and cared for.
 -- Assumes nothing.
-use borrow.Author.Rules.{rules}
 use mathlib.Core.Path.{◌≡◌, sym, ap, ◌∙◌}
 use mathlib.Core.Bool.{true}
 use Prim.Native.Nat.{ℕ, ◌*◌, ◌%◌, ◌^◌, ◌≤◌}

@@ -1,15 +1,13 @@
 use borrow.Author.Rules.{rules}
 use mathlib.Core.Path.{◌≡◌, refl, ap, ◌∙◌}
 use mathlib.Core.Bool.{Bool, false, not}
-use Prim.Native.Nat.{ℕ, ◌+◌, ◌-◌, ◌≤◌}
+use Prim.Native.Nat.{ℕ, ◌+◌, ◌-◌}
 use native.Mathlib.Omega.{arith}
 use lib.ListN.{get_or, take, drop}
 use Rattle.lists.specs.Lists.{keep, up_to}
 use Rattle.diagram.proofs.Orders.Order.{index_below}
 use Rattle.sift.specs.Inner.Choice.{nodes_at, overtaken}
 use Rattle.sift.proofs.Passing.LeadingVariable.{leading, lead-none, lead-more, lead-all}
-use Rattle.sift.proofs.choice.overtake.Reads as overtake-reads
-use Rattle.table.proofs.order.level_of.Reads as level-of-reads
 use Rattle.sift.proofs.choice.fullest.Goals as goal
 
 pub loop-v-init : goal.loop-v-init

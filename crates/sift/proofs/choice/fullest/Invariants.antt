@@ -1,17 +1,12 @@
 -- `sift::choice::fullest` meets its contract. The invariant: the lead is that of the unsifted variables from v on. The measure is v.
 -- Assumes nothing.
-use borrow.Author.Rules.{rules}
-use mathlib.Core.Path.{◌≡◌, refl, ap, ◌∙◌}
-use mathlib.Core.Bool.{Bool, false, not}
-use Prim.Native.Nat.{ℕ, ◌+◌, ◌-◌, ◌≤◌}
-use native.Mathlib.Omega.{arith}
+use mathlib.Core.Path.{◌≡◌}
+use mathlib.Core.Bool.{false, not}
+use Prim.Native.Nat.{◌≤◌}
 use lib.ListN.{get_or, take, drop}
 use Rattle.lists.specs.Lists.{keep, up_to}
-use Rattle.diagram.proofs.Orders.Order.{index_below}
-use Rattle.sift.specs.Inner.Choice.{nodes_at, overtaken}
-use Rattle.sift.proofs.Passing.LeadingVariable.{leading, lead-none, lead-more, lead-all}
-use Rattle.sift.proofs.choice.overtake.Reads as overtake-reads
-use Rattle.table.proofs.order.level_of.Reads as level-of-reads
+use Rattle.sift.specs.Inner.Choice.{nodes_at}
+use Rattle.sift.proofs.Passing.LeadingVariable.{leading}
 use Rattle.sift.proofs.choice.fullest.Given as goal
 
 abbrev pub invariant-loop-v : goal.invariant-loop-v

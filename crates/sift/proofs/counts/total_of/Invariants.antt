@@ -1,17 +1,12 @@
 -- `sift::counts::total_of` meets its contract. The invariant: the counts before l are added up, and the others make up the sum.
 -- The measure is how many are left.
 -- Assumes nothing.
-use borrow.Author.Rules.{rules}
-use mathlib.Core.Path.{◌≡◌, sym, ap, ◌∙◌}
+use mathlib.Core.Path.{◌≡◌}
 use mathlib.Core.List.{sum}
-use Prim.Native.Nat.{ℕ, ◌+◌, ◌*◌, ◌-◌, ◌≤◌}
-use native.Mathlib.Nat.{zero-add}
-use native.Mathlib.Omega.{arith}
-use lib.ListN.{get_or, drop}
-use Rattle.lists.proofs.Numbers.Total.{sum_more, sum-all}
+use Prim.Native.Nat.{◌+◌, ◌-◌, ◌≤◌}
+use lib.ListN.{drop}
 use Rattle.diagram.specs.Networks.Bound.{most_variables}
 use Rattle.fill.specs.Calls.{counts_of}
-use Rattle.sift.proofs.Trying.LentCounts.{level-room, level-length, level-at}
 use Rattle.sift.proofs.counts.total_of.Given as goal
 
 abbrev pub invariant-loop-l : goal.invariant-loop-l

@@ -1,6 +1,5 @@
 -- `sift::moves::moves` meets its contract. Each refusal by its test, and what is left by the report.
 -- Assumes nothing.
-use borrow.Author.Rules.{rules}
 use mathlib.Core.Path.{◌≡◌, sym, ◌∙◌}
 use mathlib.Core.Bool.{true, not}
 use native.Mathlib.Nat.{mul-le-mul}

@@ -4,8 +4,6 @@ use Prim.Native.Nat.{◌+◌, ◌*◌, ◌-◌, ◌^◌, ◌≤◌, ◌<◌}
 use native.Mathlib.Omega.{arith}
 use borrow.Rule.Slice.PartMut.{mid_len, same_len_mid}
 use lib.ListN.{length, take, drop}
-use Rattle.lists.specs.Written.{over}
-use Rattle.diagram.specs.Orders.Moves.{gain_at}
 use Rattle.table.specs.Answer.{value}
 use Rattle.table.specs.State.{order_of}
 use Rattle.table.proofs.Held.{held-heading}

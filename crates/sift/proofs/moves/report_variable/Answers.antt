@@ -1,6 +1,5 @@
 -- `sift::moves::report_variable` meets its contract. The counts are those of v at each level, and add up to the costs of these orders.
 -- Assumes nothing.
-use borrow.Author.Rules.{rules}
 use mathlib.Core.Path.{sym, subst}
 use Prim.Native.Nat.{ℕ, ◌≤◌}
 use native.Mathlib.Omega.{arith}

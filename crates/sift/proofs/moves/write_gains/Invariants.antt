@@ -1,18 +1,10 @@
 -- `sift::moves::write_gains` meets its contract. The invariant: the row is written over as far as p. The measure is how many levels are
 -- left.
 -- Assumes nothing.
-use borrow.Author.Rules.{rules}
-use mathlib.Core.Path.{◌≡◌, refl, sym, ap, ◌∙◌, subst}
-use Prim.Native.Nat.{ℕ, ◌-◌, ◌≤◌}
-use native.Mathlib.Omega.{arith}
-use lib.IntN.{pos, ◌-ℤ◌}
-use lib.ListN.{length, length-set}
-use mir.Syntax.{w32}
-use mir.Val.{to_z, of_z}
-use mir.ValLaws.{to_z-of_z}
+use mathlib.Core.Path.{◌≡◌}
+use Prim.Native.Nat.{◌-◌, ◌≤◌}
+use lib.ListN.{length}
 use Rattle.lists.specs.Written.{over}
-use Rattle.lists.proofs.Written.Over.{over-next}
-use Rattle.diagram.specs.Networks.Bound.{most_nodes}
 use Rattle.sift.specs.Inner.Counts.{counts_gain}
 use Rattle.sift.proofs.moves.write_gains.Given as goal
 

@@ -3,7 +3,6 @@
 use borrow.Author.Rules.{rules}
 use mathlib.Core.Path.{sym, ◌∙◌}
 use Rattle.sift.proofs.Trying.MovedEntries.{moved-above, moved_here, moved-below}
-use Rattle.sift.proofs.order.other.Reads as other-reads
 use Rattle.sift.proofs.order.moved_entry.Goals as goal
 
 pub returns-then-i-p : goal.returns-then-i-p

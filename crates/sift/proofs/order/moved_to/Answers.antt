@@ -1,13 +1,6 @@
 use borrow.Author.Rules.{rules}
-use Prim.Native.Nat.{◌≤◌, ◌-◌}
-use mathlib.Core.Path.{◌≡◌}
-use mathlib.Core.List.{◌++◌}
 use native.Mathlib.Omega.{arith}
-use lib.ListN.{take, drop}
-use Rattle.diagram.specs.Orders.Order.{moved}
 use Rattle.sift.proofs.Trying.MovedEntries.{moved_more, moved-whole}
-use Rattle.sift.proofs.order.moved_entry.Reads as moved-entry-reads
-use Rattle.table.proofs.order.level_of.Reads as level-of-reads
 use Rattle.sift.proofs.order.moved_to.Goals as goal
 
 pub loop-i-preserved : goal.loop-i-preserved

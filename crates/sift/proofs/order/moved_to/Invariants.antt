@@ -1,16 +1,11 @@
 -- `sift::order::moved_to` meets its contract. The invariant: the first i entries are those of the moved order.
 -- The measure is what is left of n.
 -- Assumes nothing.
-use borrow.Author.Rules.{rules}
 use Prim.Native.Nat.{◌≤◌, ◌-◌}
 use mathlib.Core.Path.{◌≡◌}
 use mathlib.Core.List.{◌++◌}
-use native.Mathlib.Omega.{arith}
 use lib.ListN.{take, drop}
 use Rattle.diagram.specs.Orders.Order.{moved}
-use Rattle.sift.proofs.Trying.MovedEntries.{moved_more, moved-whole}
-use Rattle.sift.proofs.order.moved_entry.Reads as moved-entry-reads
-use Rattle.table.proofs.order.level_of.Reads as level-of-reads
 use Rattle.sift.proofs.order.moved_to.Given as goal
 
 abbrev pub invariant-loop-i : goal.invariant-loop-i

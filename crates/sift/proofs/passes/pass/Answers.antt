@@ -1,15 +1,10 @@
 -- `sift::passes::pass` meets its contract. Each refusal by its test, and the outcome by the pass that was run.
 -- Assumes nothing.
-use borrow.Author.Rules.{rules}
 use mathlib.Core.Path.{sym, ◌∙◌}
 use native.Mathlib.Omega.{arith}
 use borrow.Author.Tests.{not-true, not-false}
 use Rattle.lists.proofs.Bools.{to-T}
 use Rattle.sift.proofs.Passing.PassOutcome.{pass-short, pass-no-table, pass-held}
-use Rattle.sift.proofs.passes.run.Reads as run-reads
-use Rattle.sift.proofs.room.lent_enough.Reads as has-room-reads
-use Rattle.sift.proofs.trials.reorder.Reads as reorder-reads
-use Rattle.table.proofs.valid.holds_table.Reads as holds-table-reads
 use Rattle.sift.proofs.passes.pass.Goals as goal
 
 pub returns-then-not-lent_enough : goal.returns-then-not-lent_enough

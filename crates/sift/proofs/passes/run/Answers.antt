@@ -1,6 +1,4 @@
-use borrow.Author.Rules.{rules}
 use mathlib.Core.Path.{◌≡◌, refl, sym, ap, ◌∙◌}
-use Prim.Native.Nat.{◌-◌}
 use native.Mathlib.Omega.{arith}
 use lib.Dec.{T}
 use lib.ListN.{length}
@@ -9,7 +7,7 @@ use Rattle.table.proofs.Held.{few-inputs, held-heading}
 use Rattle.fill.specs.declared.Levels.{Levels}
 use Rattle.fill.specs.Work.{zero_work}
 use Rattle.sift.proofs.Trying.CountSucceeds.{counted-work, counted-levels, enough-again, zero-still}
-use Rattle.sift.proofs.Passing.PassUnderWay.{Running, running-start, running-heading, running-counts}
+use Rattle.sift.proofs.Passing.PassUnderWay.{running-start, running-heading, running-counts}
 use Rattle.sift.proofs.Passing.PassUnderWay.{running-next, running-less, running-stop}
 use Rattle.sift.proofs.passes.run.Goals as goal
 use Rattle.sift.proofs.passes.run.Goals.{After-count_levels-levels}

@@ -1,6 +1,5 @@
 -- `sift::passes::turn` meets its contract. The variable that comes next is sifted in the state with the order reached so far.
 -- Assumes nothing.
-use borrow.Author.Rules.{rules}
 use mathlib.Core.Path.{◌≡◌}
 use Prim.Native.Nat.{◌≤◌, ◌<◌}
 use native.Mathlib.Omega.{arith}

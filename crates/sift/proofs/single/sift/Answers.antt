@@ -1,6 +1,5 @@
 -- `sift::single::sift` meets its contract. Each refusal by its test, and the outcome by the best level found.
 -- Assumes nothing.
-use borrow.Author.Rules.{rules}
 use mathlib.Core.Path.{sym, ap, ◌∙◌}
 use mathlib.Core.Bool.{not}
 use Prim.Native.Nat.{◌<◌}

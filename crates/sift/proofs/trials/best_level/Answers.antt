@@ -1,7 +1,7 @@
 use borrow.Author.Rules.{rules}
 use mathlib.Core.Path.{◌≡◌, refl, ap₂, ◌∙◌}
 use mathlib.Core.List.{sum}
-use Prim.Native.Nat.{ℕ, ◌+◌, ◌-◌, ◌≤◌, ◌<◌}
+use Prim.Native.Nat.{ℕ, ◌+◌, ◌≤◌, ◌<◌}
 use native.Mathlib.Omega.{arith}
 use Rattle.diagram.specs.Networks.Bound.{most_variables, most_nodes}
 use Rattle.table.specs.State.{order_of}
@@ -9,7 +9,7 @@ use Rattle.table.proofs.Held.{heading-inputs, heading-order}
 use Rattle.fill.specs.Calls.{held_table, counts_of}
 use Rattle.sift.specs.Inner.Trials.{cost_at, best_with}
 use Rattle.sift.proofs.Trying.MovedCounts.{moved-total}
-use Rattle.sift.proofs.Trying.BestLevel.{after_trials, trials-counted, trials-more, best-all, present-level}
+use Rattle.sift.proofs.Trying.BestLevel.{trials-counted, trials-more, best-all, present-level}
 use Rattle.sift.proofs.trials.best_level.Goals as goal
 use Rattle.sift.proofs.trials.best_level.Goals.{After-count_moves}
 

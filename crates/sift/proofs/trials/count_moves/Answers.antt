@@ -1,6 +1,5 @@
 -- `sift::trials::count_moves` meets its contract. The known counts are put in where v stands, and the trials of v from the top leave them.
 -- Assumes nothing.
-use borrow.Author.Rules.{rules}
 use mathlib.Core.Path.{◌∙◌}
 use Prim.Native.Nat.{◌<◌}
 use native.Mathlib.Omega.{arith}

@@ -1,6 +1,5 @@
 -- `sift::trials::sift_one` meets its contract. The counts are read off at the best level.
 -- Assumes nothing.
-use borrow.Author.Rules.{rules}
 use native.Mathlib.Omega.{arith}
 use Rattle.table.specs.State.{order_of}
 use Rattle.table.proofs.Held.{heading-inputs}

@@ -1,6 +1,5 @@
 -- `sift::trials::try_level` meets its contract. The best with one trial more, taken or not.
 -- Assumes nothing.
-use borrow.Author.Rules.{rules}
 use mathlib.Core.Path.{sym, ◌∙◌}
 use Rattle.sift.proofs.Trying.BestLevel.{with-taken, with-left}
 use Rattle.sift.proofs.trials.try_level.Goals as goal

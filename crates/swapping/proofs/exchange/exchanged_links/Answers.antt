@@ -3,7 +3,6 @@
 use mathlib.Core.Path.{refl}
 use native.Mathlib.Omega.{arith}
 use Rattle.fill.proofs.Buffers.Sizes.{work-size, links-at}
-use borrow.Author.Rules.{rules}
 use Rattle.swapping.proofs.exchange.exchanged_links.Goals as goal
 
 pub link_levels-requires : goal.link_levels-requires

@@ -5,7 +5,6 @@ use Rattle.diagram.specs.Exchanging.Exchange.{Pair, entries_after, link_into}
 use Rattle.matching.specs.Links.{link_number}
 use Rattle.swapping.specs.Inner.Exchange.{pairs_in}
 use Rattle.swapping.proofs.LevelLinks.{shows-as}
-use borrow.Author.Rules.{rules}
 use Rattle.swapping.proofs.exchange.link_half.Goals as goal
 
 pub returns : goal.returns

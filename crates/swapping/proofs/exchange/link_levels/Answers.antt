@@ -1,15 +1,14 @@
 use borrow.Author.Rules.{rules}
 use mathlib.Core.Path.{◌≡◌, refl, ◌∙◌}
 use mathlib.Core.List.{map}
-use Prim.Native.Nat.{◌+◌, ◌*◌, ◌-◌, ◌≤◌}
+use Prim.Native.Nat.{◌+◌, ◌*◌, ◌≤◌}
 use native.Mathlib.Omega.{arith}
 use lib.ListN.{length, take, length-map, length-set}
 use lib.Seq.{length-take-le}
-use Rattle.diagram.specs.Networks.Bound.{most_variables}
 use Rattle.diagram.specs.Exchanging.Exchange.{both}
 use Rattle.fill.proofs.Buffers.Sizes.{links-at}
 use Rattle.swapping.specs.Inner.Exchange.{lent_at}
-use Rattle.swapping.proofs.AllLinks.{Linking, linking-top, linking-room, linking-next}
+use Rattle.swapping.proofs.AllLinks.{linking-top, linking-room, linking-next}
 use Rattle.swapping.proofs.AllLinks.{linked-entries, linked-work, trace-length, links_above}
 use Rattle.swapping.proofs.exchange.link_levels.Goals as goal
 use Rattle.swapping.proofs.exchange.link_levels.Goals.{In-loop-q, Start}

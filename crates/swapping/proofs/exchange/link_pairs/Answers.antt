@@ -1,8 +1,7 @@
 use borrow.Author.Rules.{rules}
 use mathlib.Core.Path.{◌≡◌, refl, sym, ◌∙◌, subst}
-use Prim.Native.Nat.{ℕ, ◌-◌, ◌≤◌}
+use Prim.Native.Nat.{ℕ}
 use native.Mathlib.Omega.{arith}
-use lib.ListN.{length}
 use Rattle.swapping.specs.Inner.Exchange.{lent_at}
 use Rattle.swapping.proofs.LevelLinks.{Turns, turns-none, turns-few, turns_more}
 use Rattle.swapping.proofs.exchange.link_pairs.Goals as goal

@@ -1,12 +1,10 @@
 -- `swapping::exchange::link_pairs` meets its contract: the first j entries are linked.
 -- Assumes nothing.
-use borrow.Author.Rules.{rules}
-use mathlib.Core.Path.{◌≡◌, refl, sym, ◌∙◌, subst}
-use Prim.Native.Nat.{ℕ, ◌-◌, ◌≤◌}
-use native.Mathlib.Omega.{arith}
+use mathlib.Core.Path.{◌≡◌}
+use Prim.Native.Nat.{◌-◌, ◌≤◌}
 use lib.ListN.{length}
 use Rattle.swapping.specs.Inner.Exchange.{lent_at}
-use Rattle.swapping.proofs.LevelLinks.{Turns, turns-none, turns-few, turns_more}
+use Rattle.swapping.proofs.LevelLinks.{Turns}
 use Rattle.swapping.proofs.exchange.link_pairs.Given as goal
 
 abbrev pub invariant-loop-j : goal.invariant-loop-j

@@ -1,8 +1,7 @@
 use borrow.Author.Rules.{rules}
 use mathlib.Core.Path.{◌≡◌, refl, sym, ap, ◌∙◌, subst}
-use Prim.Native.Nat.{ℕ, ◌+◌, ◌*◌, ◌-◌, ◌≤◌}
+use Prim.Native.Nat.{ℕ, ◌+◌, ◌*◌}
 use native.Mathlib.Omega.{arith}
-use lib.ListN.{length}
 use Rattle.diagram.specs.Exchanging.Exchange.{both}
 use Rattle.fill.proofs.Buffers.Sizes.{links-at}
 use Rattle.swapping.proofs.RootLinks.{Rooted, roots-none, roots_few, roots-more}

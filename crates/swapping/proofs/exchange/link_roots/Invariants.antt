@@ -1,13 +1,9 @@
 -- `swapping::exchange::link_roots` meets its contract: the first j roots are linked.
 -- Assumes nothing.
-use borrow.Author.Rules.{rules}
-use mathlib.Core.Path.{◌≡◌, refl, sym, ap, ◌∙◌, subst}
-use Prim.Native.Nat.{ℕ, ◌+◌, ◌*◌, ◌-◌, ◌≤◌}
-use native.Mathlib.Omega.{arith}
+use mathlib.Core.Path.{◌≡◌}
+use Prim.Native.Nat.{◌-◌, ◌≤◌}
 use lib.ListN.{length}
-use Rattle.diagram.specs.Exchanging.Exchange.{both}
-use Rattle.fill.proofs.Buffers.Sizes.{links-at}
-use Rattle.swapping.proofs.RootLinks.{Rooted, roots-none, roots_few, roots-more}
+use Rattle.swapping.proofs.RootLinks.{Rooted}
 use Rattle.swapping.proofs.exchange.link_roots.Given as goal
 
 abbrev pub invariant-loop-j : goal.invariant-loop-j

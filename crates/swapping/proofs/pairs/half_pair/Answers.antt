@@ -1,6 +1,5 @@
 -- `swapping::pairs::half_pair` meets its contract: at level p the four cofactors crosswise, at any other one cofactor twice.
 -- Assumes nothing.
-use borrow.Author.Rules.{rules}
 use Rattle.swapping.specs.Inner.Exchange.{pair_of, lent_at}
 use Rattle.swapping.proofs.PairNumbers.{half-crossed, half-low, half_high}
 use Rattle.swapping.proofs.pairs.half_pair.Goals as goal

@@ -1,6 +1,5 @@
 -- `swapping::pairs::joined` meets its contract: the number's low and high are the two references.
 -- Assumes nothing.
-use borrow.Author.Rules.{rules}
 use native.Mathlib.Omega.{arith}
 use Rattle.swapping.proofs.PairNumbers.{joined-pair}
 use Rattle.swapping.proofs.pairs.joined.Goals as goal

@@ -7,7 +7,6 @@ use native.Mathlib.Omega.{arith}
 use Rattle.diagram.specs.Exchanging.Exchange.{pair}
 use Rattle.network.specs.Levels.{stored_limit}
 use Rattle.network.proofs.LinksRead.LinkRefs.{opposite-small}
-use borrow.Author.Rules.{rules}
 use Rattle.swapping.proofs.pairs.opposite_pair.Goals as goal
 
 pub joined-requires : goal.joined-requires

@@ -5,7 +5,6 @@ use Prim.Native.Nat.{ℕ}
 use Rattle.diagram.specs.Exchanging.Exchange.{same_class}
 use Rattle.swapping.specs.Inner.Exchange.{pair_of}
 use Rattle.swapping.proofs.SeenPairs.{alike_same, alike-opposite}
-use borrow.Author.Rules.{rules}
 use Rattle.swapping.proofs.seen.is_alike.Goals as goal
 
 pub returns-then-y-x : goal.returns-then-y-x

@@ -5,7 +5,6 @@ use Prim.Native.Nat.{ℕ, ◌+◌, ◌*◌, ◌%◌}
 use native.Mathlib.Omega.{arith}
 use Rattle.swapping.specs.Inner.Exchange.{pair_slot}
 use Rattle.swapping.proofs.PlacedPairs.{constant-shows, constant-link, known-shows, known-link, new-shows, new-link}
-use borrow.Author.Rules.{rules}
 use Rattle.swapping.proofs.seen.place.Goals as goal
 
 pub returns-then-is_constant : goal.returns-then-is_constant

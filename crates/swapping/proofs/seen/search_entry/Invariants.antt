@@ -1,14 +1,11 @@
 -- `swapping::seen::search_entry` meets its contract: none of the entries before entry i is of the class.
 -- Assumes nothing.
-use borrow.Author.Rules.{rules}
-use mathlib.Core.Path.{◌≡◌, refl, sym, ◌∙◌, subst}
+use mathlib.Core.Path.{◌≡◌}
 use mathlib.Core.Bool.{false}
-use Prim.Native.Nat.{ℕ, ◌≤◌, ◌-◌}
-use native.Mathlib.Omega.{arith}
+use Prim.Native.Nat.{◌≤◌, ◌-◌}
 use Rattle.lists.specs.Lists.{has}
 use Rattle.diagram.specs.Exchanging.Exchange.{same_class}
 use Rattle.swapping.specs.Inner.Exchange.{pair_of, pairs_in}
-use Rattle.swapping.proofs.SeenPairs.{found_at, found_none, none_more}
 use Rattle.swapping.proofs.seen.search_entry.Given as goal
 
 abbrev pub invariant-loop-i : goal.invariant-loop-i

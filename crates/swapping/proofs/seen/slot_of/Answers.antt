@@ -2,7 +2,6 @@
 -- Assumes nothing.
 use native.Mathlib.Omega.{arith}
 use Rattle.swapping.proofs.SeenPairs.{slot-found}
-use borrow.Author.Rules.{rules}
 use Rattle.swapping.proofs.seen.slot_of.Goals as goal
 
 pub returns : goal.returns

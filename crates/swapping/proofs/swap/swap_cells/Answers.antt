@@ -6,7 +6,6 @@ use Rattle.table.specs.Answer.{done}
 use Rattle.network.proofs.Building.BuildCases.{never}
 use Rattle.swapping.proofs.Cases.{kept_case, cleared-case}
 use Rattle.swapping.proofs.Kept.{swapped-left, fit-left}
-use borrow.Author.Rules.{rules}
 use Rattle.swapping.proofs.swap.swap_cells.Goals as goal
 
 pub swap_checked-requires : goal.swap_checked-requires

@@ -1,6 +1,5 @@
 -- `swapping::swap::swap_checked` meets its contract: the links are put, and read as they are; 23 or the network comes of it.
 -- Assumes nothing.
-use borrow.Author.Rules.{rules}
 use mathlib.Core.Path.{sym, ap, ◌∙◌}
 use native.Mathlib.Omega.{arith}
 use Rattle.lent.proofs.Sizes.{roots-size}

@@ -6,7 +6,6 @@ use Rattle.table.specs.declared.Answer.TheVariants.{Done}
 use Rattle.table.specs.declared.Outcome.{Outcome}
 use Rattle.table.specs.Answer.{done}
 use Rattle.swapping.proofs.Checks.{short-work, short-roots, no-network, no_place, then-canonical}
-use borrow.Author.Rules.{rules}
 use Rattle.swapping.proofs.swap.swap_checks.Goals as goal
 
 pub returns-then-work-lt-WORK : goal.returns-then-work-lt-WORK

@@ -1,5 +1,4 @@
 -- `table::cared::cared` meets its contract, a law for each way out; a table that is held has few bits. Assumes nothing.
-use borrow.Author.Rules.{rules}
 use mathlib.Core.Path.{sym, ◌∙◌}
 use native.Mathlib.Omega.{arith}
 use borrow.Author.Tests.{not-true, not-false}

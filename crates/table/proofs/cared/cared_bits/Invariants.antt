@@ -1,13 +1,10 @@
 -- `table::cared::cared_bits` meets its contract. The loop's invariant: the total is the sum over the words passed, at most 64 for each.
 -- Assumes nothing.
-use borrow.Author.Rules.{rules}
 use Prim.Native.Nat.{ℕ, ◌*◌, ◌+◌, ◌-◌, ◌≤◌, min}
-use mathlib.Core.Path.{◌≡◌, ap, ap₂, ◌∙◌}
+use mathlib.Core.Path.{◌≡◌}
 use Rattle.lists.specs.Bits.{digit}
 use Rattle.lists.specs.Sums.{sum_below}
 use Rattle.block.specs.Bits.{stream_bit}
-use native.Mathlib.Omega.{arith}
-use Rattle.lists.proofs.Numbers.Sums.{sum-none, sum-part, sum-whole}
 use Rattle.table.proofs.cared.cared_bits.Given as goal
 
 abbrev pub invariant-loop-w : goal.invariant-loop-w

@@ -1,13 +1,8 @@
 -- `table::file::blocks_answer` meets its contract. The loop's invariant: the answer is that of the blocks from block k on.
 -- Assumes nothing.
-use mathlib.Core.Path.{◌≡◌, sym, ap, ◌∙◌}
+use mathlib.Core.Path.{◌≡◌}
 use Prim.Native.Nat.{suc, ◌*◌, ◌-◌, ◌≤◌}
-use borrow.Author.Tests.{not-true, not-false}
-use native.Mathlib.Omega.{arith}
-use Rattle.table.specs.Answer.{done}
-use Rattle.table.specs.File.{block_answer, blocks_answer}
-use Rattle.table.proofs.Files.Answers.{refusal-next, refusal-stop, refusal-end}
-use Rattle.table.proofs.Files.Reader.{read-further}
+use Rattle.table.specs.File.{blocks_answer}
 use Rattle.table.proofs.file.blocks_answer.Given as goal
 
 abbrev pub invariant-loop-k : goal.invariant-loop-k

@@ -1,7 +1,6 @@
 -- `table::file::care_answer` meets its contract: kind 3 is block k's own behind the value blocks only.
 -- Assumes nothing.
 use mathlib.Core.Path.{◌∙◌, sym}
-use borrow.Author.Rules.{rules}
 use native.Mathlib.Omega.{arith}
 use Rattle.table.proofs.Files.Reader.{kind-care, care-early, first-care, stream-read}
 use Rattle.table.proofs.file.care_answer.Goals as goal

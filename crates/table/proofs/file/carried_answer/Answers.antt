@@ -1,7 +1,6 @@
 -- `table::file::carried_answer` meets its contract: each answer by the tests that led to it.
 -- Assumes nothing.
 use mathlib.Core.Path.{sym, ◌∙◌}
-use borrow.Author.Rules.{rules}
 use borrow.Author.Tests.{not-true, not-false}
 use Rattle.table.specs.Inner.Reader.{carried_answer}
 use Rattle.table.proofs.file.carried_answer.Goals as goal

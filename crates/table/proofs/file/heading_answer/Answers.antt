@@ -1,7 +1,6 @@
 -- `table::file::heading_answer` meets its contract: each answer by the tests that led to it.
 -- Assumes nothing.
 use mathlib.Core.Path.{sym, ◌∙◌}
-use borrow.Author.Rules.{rules}
 use borrow.Author.Tests.{eq-eqb, ne_eqb, not-true, not-false}
 use Rattle.table.proofs.file.heading_answer.Goals as goal
 

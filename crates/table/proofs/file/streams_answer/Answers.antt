@@ -2,7 +2,6 @@
 -- Assumes nothing.
 use mathlib.Core.Path.{◌≡◌}
 use Prim.Native.Nat.{◌*◌, ◌^◌, ◌%◌}
-use borrow.Author.Rules.{rules}
 use native.Mathlib.Omega.{arith}
 use Rattle.table.specs.File.{stream_blocks}
 use Rattle.table.proofs.Files.Answers.{stream-small, shifted-out, few-blocks, blocks-for-is, wrong-count, right-count}

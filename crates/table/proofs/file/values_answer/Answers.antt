@@ -1,7 +1,6 @@
 -- `table::file::values_answer` meets its contract: kind 2 is block k's own at blocks 1 to `blocks` only.
 -- Assumes nothing.
 use mathlib.Core.Path.{◌∙◌, sym}
-use borrow.Author.Rules.{rules}
 use native.Mathlib.Omega.{arith}
 use Rattle.table.proofs.Files.Reader.{kind-first, kind-values, kind-care, wrong-kind, first-value, stream-read}
 use Rattle.table.proofs.file.values_answer.Goals as goal

@@ -1,6 +1,5 @@
 -- `table::load::stream_byte` meets its contract.
 -- Assumes nothing.
-use borrow.Author.Rules.{rules}
 use borrow.Author.Tests.{lt-ltb, le-ltb}
 use Rattle.table.specs.File.{stream_byte}
 use Rattle.table.proofs.load.stream_byte.Goals as goal

@@ -1,14 +1,10 @@
 -- `table::load::write_plane` meets its contract. The loop's invariant: the plane is written over as far as byte i.
 -- Assumes nothing.
-use mathlib.Core.Path.{◌≡◌, refl, ap, ◌∙◌}
-use Prim.Native.Nat.{ℕ, ◌-◌, ◌≤◌}
-use native.Mathlib.Omega.{arith}
-use lib.ListN.{length}
+use mathlib.Core.Path.{◌≡◌}
+use Prim.Native.Nat.{◌-◌, ◌≤◌}
 use Rattle.lists.specs.Written.{over}
-use Rattle.lists.proofs.Written.Over.{over-next, length_over}
 use Rattle.table.specs.File.{stream_byte}
 use Rattle.table.specs.Calls.{plane_size}
-use Rattle.table.proofs.Planes.PlaneSize.{plane-size}
 use Rattle.table.proofs.load.write_plane.Given as goal
 
 abbrev pub invariant-loop-i : goal.invariant-loop-i

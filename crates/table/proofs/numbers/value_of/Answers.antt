@@ -1,9 +1,7 @@
 -- `table::numbers::value_of` meets its contract: a success and 23 have values of their own, every other refusal has 0.
 -- Assumes nothing.
 use mathlib.Core.Path.{sym, ap}
-use borrow.Author.Rules.{rules}
 use Rattle.table.specs.Answer.{value}
-use Rattle.table.proofs.Variants.{plain_value}
 use Rattle.table.proofs.numbers.value_of.Goals as goal
 
 pub returns-in-Done : goal.returns-in-Done

@@ -1,8 +1,6 @@
 use borrow.Author.Rules.{rules}
-use Prim.Native.Nat.{◌≤◌, ◌-◌}
-use mathlib.Core.Path.{◌≡◌, refl, sym, ◌∙◌}
-use Rattle.lists.proofs.Written.Rest.{rest}
-use Rattle.table.proofs.Ordering.Orders.{fine, order-fine, fine-high, fine-again, fine-next, fine-none}
+use mathlib.Core.Path.{refl, sym, ◌∙◌}
+use Rattle.table.proofs.Ordering.Orders.{order-fine, fine-high, fine-again, fine-next, fine-none}
 use Rattle.table.proofs.order.is_order.Goals as goal
 
 pub loop-i-init : goal.loop-i-init

@@ -1,10 +1,4 @@
 use borrow.Author.Rules.{rules}
-use Prim.Native.Nat.{◌+◌, ◌≤◌, ◌-◌}
-use mathlib.Core.Path.{◌≡◌}
-use lib.Dec.{eqb}
-use lib.ListN.{take}
-use Rattle.lists.specs.Lists.{index}
-use Rattle.lists.proofs.Written.Rest.{rest}
 use Rattle.table.proofs.Ordering.VariableLevels.{level-here, level-later, level-none}
 use Rattle.table.proofs.order.level_among.Goals as goal
 

@@ -1,13 +1,11 @@
 -- `table::order::level_among` meets its contract. The invariant: v is not among the first i entries. The measure is what is left of n.
 -- Assumes nothing.
-use borrow.Author.Rules.{rules}
 use Prim.Native.Nat.{◌+◌, ◌≤◌, ◌-◌}
 use mathlib.Core.Path.{◌≡◌}
 use lib.Dec.{eqb}
 use lib.ListN.{take}
 use Rattle.lists.specs.Lists.{index}
 use Rattle.lists.proofs.Written.Rest.{rest}
-use Rattle.table.proofs.Ordering.VariableLevels.{level-here, level-later, level-none}
 use Rattle.table.proofs.order.level_among.Given as goal
 
 abbrev pub invariant-loop-i : goal.invariant-loop-i

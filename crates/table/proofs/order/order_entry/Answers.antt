@@ -1,6 +1,5 @@
 -- `table::order::order_entry` meets its contract.
 -- Assumes nothing.
-use borrow.Author.Rules.{rules}
 use borrow.Author.Tests.{lt-ltb, le-ltb}
 use Rattle.table.proofs.order.order_entry.Goals as goal
 

@@ -1,13 +1,8 @@
 use borrow.Author.Rules.{rules}
-use Prim.Native.Nat.{ℕ, ◌+◌, ◌≤◌, ◌-◌}
-use mathlib.Core.Bool.{cond}
-use mathlib.Core.List.{List}
-use lib.Dec.{ltb}
 use mathlib.Core.Path.{◌≡◌, refl, ap, ◌∙◌}
 use native.Mathlib.Omega.{arith}
 use Rattle.lists.proofs.Written.Filled.{filled, filled_more, filled-all}
 use Rattle.diagram.specs.Networks.Bound.{most_variables}
-use Rattle.block.specs.Block.{byte}
 use Rattle.table.proofs.order.read_order.Invariants.{entry}
 use Rattle.table.proofs.order.read_order.Goals as goal
 

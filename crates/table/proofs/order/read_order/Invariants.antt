@@ -1,13 +1,11 @@
 -- `table::order::read_order` meets its contract. The loop's invariant: the array has the heading's entries below p, and zeros.
 -- Assumes nothing.
-use borrow.Author.Rules.{rules}
 use Prim.Native.Nat.{ℕ, ◌+◌, ◌≤◌, ◌-◌}
 use mathlib.Core.Bool.{cond}
 use mathlib.Core.List.{List}
 use lib.Dec.{ltb}
-use mathlib.Core.Path.{◌≡◌, refl, ap, ◌∙◌}
-use native.Mathlib.Omega.{arith}
-use Rattle.lists.proofs.Written.Filled.{filled, filled_more, filled-all}
+use mathlib.Core.Path.{◌≡◌}
+use Rattle.lists.proofs.Written.Filled.{filled}
 use Rattle.diagram.specs.Networks.Bound.{most_variables}
 use Rattle.block.specs.Block.{byte}
 use Rattle.table.proofs.order.read_order.Given as goal

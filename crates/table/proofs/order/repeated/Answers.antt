@@ -1,11 +1,7 @@
 use borrow.Author.Rules.{rules}
-use Prim.Native.Nat.{suc, ◌≤◌, ◌-◌}
-use mathlib.Core.Path.{◌≡◌, sym, ◌∙◌}
+use mathlib.Core.Path.{sym, ◌∙◌}
 use native.Mathlib.Numerals.{add-one}
-use lib.Dec.{eqb}
 use lib.ListN.{get_or}
-use Rattle.lists.specs.Lists.{has}
-use Rattle.lists.proofs.Written.Rest.{rest}
 use Rattle.table.proofs.Ordering.Orders.{has-now, has-later, has-none}
 use Rattle.table.proofs.order.repeated.Goals as goal
 

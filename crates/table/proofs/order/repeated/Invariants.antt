@@ -1,14 +1,10 @@
 -- `table::order::repeated` meets its contract. The loop's invariant: the variable stands again among the later entries exactly if it stands
 -- among those not yet passed. The measure is what is left of them. Assumes nothing.
-use borrow.Author.Rules.{rules}
 use Prim.Native.Nat.{suc, ◌≤◌, ◌-◌}
-use mathlib.Core.Path.{◌≡◌, sym, ◌∙◌}
-use native.Mathlib.Numerals.{add-one}
+use mathlib.Core.Path.{◌≡◌}
 use lib.Dec.{eqb}
-use lib.ListN.{get_or}
 use Rattle.lists.specs.Lists.{has}
 use Rattle.lists.proofs.Written.Rest.{rest}
-use Rattle.table.proofs.Ordering.Orders.{has-now, has-later, has-none}
 use Rattle.table.proofs.order.repeated.Given as goal
 
 abbrev pub invariant-loop-j : goal.invariant-loop-j

@@ -1,5 +1,4 @@
 -- `table::swap::exchange` meets its contract: the two stores are the exchange. Assumes nothing.
-use borrow.Author.Rules.{rules}
 use native.Mathlib.Numerals.{add-one}
 use Rattle.table.proofs.swap.exchange.Goals as goal
 

@@ -1,5 +1,4 @@
 -- `table::valid::holds_network` meets its contract, by the heading and then by the stage. Assumes nothing.
-use borrow.Author.Rules.{rules}
 use mathlib.Core.Path.{◌≡◌, sym, ap, ◌∙◌}
 use borrow.Author.Tests.{not-true, not-false}
 use Rattle.table.specs.State.{stage_of, is_network}

@@ -1,5 +1,4 @@
 -- `table::valid::holds_table` meets its contract, by the heading and then by the stage. Assumes nothing.
-use borrow.Author.Rules.{rules}
 use mathlib.Core.Path.{◌≡◌, sym, ap, ◌∙◌}
 use borrow.Author.Tests.{not-true, not-false}
 use mathlib.Core.Bool.{not}

@@ -1,9 +1,5 @@
 use borrow.Author.Rules.{rules}
-use Prim.Native.Nat.{◌-◌, ◌/◌, ◌≤◌}
-use lib.ListN.{length}
-use Rattle.text.specs.Text.{cell_line, in_turn}
-use Rattle.text.specs.Written.{Written}
-use Rattle.text.proofs.Writing.{written-room, written-more, written-length, written-first, written-second}
+use Rattle.text.proofs.Writing.{written-room, written-more, written-first, written-second}
 use Rattle.text.proofs.held.put_cells.Goals as goal
 
 pub returns-then-cells-i : goal.returns-then-cells-i

@@ -1,11 +1,9 @@
 -- `text::held::put_cells` meets its contract.
 -- Assumes nothing.
-use borrow.Author.Rules.{rules}
 use Prim.Native.Nat.{◌-◌, ◌/◌, ◌≤◌}
 use lib.ListN.{length}
 use Rattle.text.specs.Text.{cell_line, in_turn}
 use Rattle.text.specs.Written.{Written}
-use Rattle.text.proofs.Writing.{written-room, written-more, written-length, written-first, written-second}
 use Rattle.text.proofs.held.put_cells.Given as goal
 
 abbrev pub invariant-loop-i : goal.invariant-loop-i

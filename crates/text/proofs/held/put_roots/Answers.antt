@@ -1,8 +1,5 @@
 use borrow.Author.Rules.{rules}
-use Prim.Native.Nat.{◌-◌, ◌≤◌}
-use Rattle.text.specs.Text.{root_line, in_turn}
-use Rattle.text.specs.Written.{Written}
-use Rattle.text.proofs.Writing.{written-room, written-more, written-length, written-in-turn}
+use Rattle.text.proofs.Writing.{written-room, written-more, written-in-turn}
 use Rattle.text.proofs.held.put_roots.Goals as goal
 
 pub put_root-next-requires : goal.put_root-next-requires

@@ -1,10 +1,8 @@
 -- `text::held::put_roots` meets its contract.
 -- Assumes nothing.
-use borrow.Author.Rules.{rules}
 use Prim.Native.Nat.{◌-◌, ◌≤◌}
 use Rattle.text.specs.Text.{root_line, in_turn}
 use Rattle.text.specs.Written.{Written}
-use Rattle.text.proofs.Writing.{written-room, written-more, written-length, written-in-turn}
 use Rattle.text.proofs.held.put_roots.Given as goal
 
 abbrev pub invariant-loop-j : goal.invariant-loop-j

@@ -1,9 +1,5 @@
 use borrow.Author.Rules.{rules}
-use Prim.Native.Nat.{◌-◌, ◌≤◌}
-use lib.ListN.{get_or}
-use Rattle.text.specs.Text.{spaced, in_turn}
-use Rattle.text.specs.Written.{Written}
-use Rattle.text.proofs.Writing.{written-room, written-more, written-length, written-in-turn}
+use Rattle.text.proofs.Writing.{written-room, written-more, written-in-turn}
 use Rattle.text.proofs.line.put_entries.Goals as goal
 
 pub put_number-next-requires : goal.put_number-next-requires

@@ -1,11 +1,9 @@
 -- `text::line::put_entries` meets its contract.
 -- Assumes nothing.
-use borrow.Author.Rules.{rules}
 use Prim.Native.Nat.{◌-◌, ◌≤◌}
 use lib.ListN.{get_or}
 use Rattle.text.specs.Text.{spaced, in_turn}
 use Rattle.text.specs.Written.{Written}
-use Rattle.text.proofs.Writing.{written-room, written-more, written-length, written-in-turn}
 use Rattle.text.proofs.line.put_entries.Given as goal
 
 abbrev pub invariant-loop-i : goal.invariant-loop-i

@@ -1,6 +1,5 @@
 -- `text::put::put_byte` meets its contract.
 -- Assumes nothing.
-use borrow.Author.Rules.{rules}
 use native.Mathlib.Omega.{arith}
 use Rattle.text.proofs.Writing.{written_byte, written-past}
 use Rattle.text.proofs.put.put_byte.Goals as goal

@@ -1,8 +1,5 @@
 use borrow.Author.Rules.{rules}
-use Prim.Native.Nat.{◌-◌, ◌≤◌}
-use lib.ListN.{length, take}
-use Rattle.text.specs.Written.{Written}
-use Rattle.text.proofs.Writing.{written-room, written-keyword, written-length, written-whole}
+use Rattle.text.proofs.Writing.{written-room, written-keyword, written-whole}
 use Rattle.text.proofs.put.put_keyword.Goals as goal
 
 pub put_byte-next-requires : goal.put_byte-next-requires

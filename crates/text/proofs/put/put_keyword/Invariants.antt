@@ -1,10 +1,8 @@
 -- `text::put::put_keyword` meets its contract.
 -- Assumes nothing.
-use borrow.Author.Rules.{rules}
 use Prim.Native.Nat.{◌-◌, ◌≤◌}
 use lib.ListN.{length, take}
 use Rattle.text.specs.Written.{Written}
-use Rattle.text.proofs.Writing.{written-room, written-keyword, written-length, written-whole}
 use Rattle.text.proofs.put.put_keyword.Given as goal
 
 abbrev pub invariant-loop-i : goal.invariant-loop-i

@@ -1,6 +1,5 @@
 -- `yavdocsil::answer::answer_word` meets its contract: neither the product nor the sum is too large.
 -- Assumes nothing.
-use borrow.Author.Rules.{rules}
 use mathlib.Core.Path.{ap₂}
 use Prim.Native.Nat.{ℕ, ◌+◌, ◌*◌}
 use native.Mathlib.Omega.{arith}

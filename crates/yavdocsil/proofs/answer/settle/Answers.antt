@@ -1,6 +1,5 @@
 -- `yavdocsil::answer::settle` meets its contract: only a success is written.
 -- Assumes nothing.
-use borrow.Author.Rules.{rules}
 use mathlib.Core.Path.{◌∙◌}
 use Rattle.yavdocsil.proofs.AnswerWords.{word-done, settled-refused, settled-done, read_off}
 use Rattle.yavdocsil.proofs.answer.settle.Goals as goal

@@ -1,6 +1,5 @@
 -- `yavdocsil::build::yav_build` meets its contract: what `build` owes of its outcome is carried to the answer and the words.
 -- Assumes nothing.
-use borrow.Author.Rules.{rules}
 use mathlib.Core.Path.{refl, sym, ap, ◌∙◌, subst}
 use mathlib.Core.Bool.{true}
 use Rattle.diagram.specs.Demands.{NoneFits}

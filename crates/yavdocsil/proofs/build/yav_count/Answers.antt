@@ -1,6 +1,5 @@
 -- `yavdocsil::build::yav_count` meets its contract: 10 for a short state, else what `count` answers and leaves.
 -- Assumes nothing.
-use borrow.Author.Rules.{rules}
 use mathlib.Core.Path.{sym, subst}
 use Rattle.yavdocsil.proofs.SmallValues.{Small, count_small}
 use Rattle.yavdocsil.proofs.Calling.{short-answer, short-leaves, called-answer, called-leaves}

@@ -1,6 +1,5 @@
 -- `yavdocsil::cells::yav_read_cells` meets its contract: what `read_cells` owes of its outcome is carried to the answer and the words.
 -- Assumes nothing.
-use borrow.Author.Rules.{rules}
 use mathlib.Core.Path.{refl, sym, ap, ◌∙◌, subst}
 use Rattle.table.specs.declared.Outcome.{Outcome}
 use Rattle.lent.specs.Lent.{lent_diagram}

@@ -1,6 +1,5 @@
 -- `yavdocsil::cells::yav_write_cells` meets its contract: 10 for a short state, else what `write_cells` answers and leaves.
 -- Assumes nothing.
-use borrow.Author.Rules.{rules}
 use mathlib.Core.Path.{sym, subst}
 use Rattle.yavdocsil.proofs.SmallValues.{Small, write-small}
 use Rattle.yavdocsil.proofs.Calling.{short-answer, short-leaves, called-answer, called-leaves}

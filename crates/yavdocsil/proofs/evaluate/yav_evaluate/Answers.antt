@@ -1,6 +1,5 @@
 -- `yavdocsil::evaluate::yav_evaluate` meets its contract: 10 for a short state, else what `evaluate` answers.
 -- Assumes nothing.
-use borrow.Author.Rules.{rules}
 use mathlib.Core.Path.{sym, subst}
 use Rattle.yavdocsil.proofs.SmallValues.{Small, evaluate-small}
 use Rattle.yavdocsil.proofs.Calling.{short-answer, called-answer}

@@ -1,6 +1,5 @@
 -- `yavdocsil::evaluate::yav_evaluate_rows` meets its contract: 10 for a short state, else what `evaluate_rows` answers and leaves.
 -- Assumes nothing.
-use borrow.Author.Rules.{rules}
 use mathlib.Core.Path.{sym, subst}
 use Rattle.lent.specs.Rows.{EachAlone}
 use Rattle.yavdocsil.specs.Words.{state_from}

@@ -1,6 +1,5 @@
 -- `yavdocsil::load::yav_cared` meets its contract: 10 for a short state, else what `cared` answers.
 -- Assumes nothing.
-use borrow.Author.Rules.{rules}
 use mathlib.Core.Path.{sym, subst}
 use Rattle.yavdocsil.proofs.SmallValues.{Small, cared-small}
 use Rattle.yavdocsil.proofs.Calling.{short-answer, called-answer}

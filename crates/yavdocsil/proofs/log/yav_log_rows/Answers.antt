@@ -1,6 +1,5 @@
 -- `yavdocsil::log::yav_log_rows` meets its contract: 10 for a short state, else what `log_rows` answers and leaves.
 -- Assumes nothing.
-use borrow.Author.Rules.{rules}
 use mathlib.Core.Path.{sym, ap, ◌∙◌, subst}
 use Rattle.table.specs.declared.Outcome.{Outcome}
 use Rattle.yavdocsil.specs.Called.{words_after}

@@ -1,6 +1,5 @@
 -- `yavdocsil::moves::yav_moves` meets its contract: 10 for a short state, else what `moves` answers, leaves and owes.
 -- Assumes nothing.
-use borrow.Author.Rules.{rules}
 use mathlib.Core.Path.{sym, subst}
 use Rattle.sift.specs.Moves.{Reported}
 use Rattle.yavdocsil.specs.Words.{state_from}

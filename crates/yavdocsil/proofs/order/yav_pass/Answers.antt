@@ -1,6 +1,5 @@
 -- `yavdocsil::order::yav_pass` meets its contract: what `pass` owes of its outcome is carried to the answer and the words.
 -- Assumes nothing.
-use borrow.Author.Rules.{rules}
 use mathlib.Core.Path.{refl, sym, ap, ◌∙◌, subst}
 use Rattle.table.specs.declared.Outcome.{Outcome}
 use Rattle.sift.specs.Calls.{PassDemand, PassNeverDearer}

@@ -1,6 +1,5 @@
 -- `yavdocsil::order::yav_swap` meets its contract: 10 for a short state, else what `swap` answers and leaves.
 -- Assumes nothing.
-use borrow.Author.Rules.{rules}
 use mathlib.Core.Path.{sym, ap, ◌∙◌, subst}
 use Rattle.table.specs.declared.Outcome.{Outcome}
 use Rattle.yavdocsil.specs.Called.{words_after}

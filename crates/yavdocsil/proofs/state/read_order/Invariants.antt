@@ -1,13 +1,9 @@
 -- `yavdocsil::state::read_order` meets its contract. The loop's invariant: the entries below p are the words', the others zero.
 -- Assumes nothing.
-use borrow.Author.Rules.{rules}
-use mathlib.Core.Path.{◌≡◌, refl, sym, ap, ap₂, ◌∙◌}
-use mathlib.Core.List.{List, ◌++◌, append-nil}
-use Prim.Native.Nat.{ℕ, ◌+◌, ◌-◌, ◌≤◌}
-use native.Mathlib.Omega.{arith}
-use lib.ListN.{set, take, drop, replicate, length-drop}
-use lib.Seq.{get_or-drop}
-use Rattle.lists.proofs.Written.Paste.{paste_more}
+use mathlib.Core.Path.{◌≡◌}
+use mathlib.Core.List.{◌++◌}
+use Prim.Native.Nat.{◌-◌, ◌≤◌}
+use lib.ListN.{take, drop, replicate}
 use Rattle.diagram.specs.Networks.Bound.{most_variables}
 use Rattle.yavdocsil.specs.Words.{order_at}
 use Rattle.yavdocsil.proofs.state.read_order.Given as goal

@@ -1,6 +1,5 @@
 -- `yavdocsil::state::read_state` meets its contract: each field is read from its word.
 -- Assumes nothing.
-use borrow.Author.Rules.{rules}
 use mathlib.Core.Path.{ap₂}
 use mathlib.Core.List.{List}
 use Prim.Native.Nat.{ℕ}

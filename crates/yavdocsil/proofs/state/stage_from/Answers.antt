@@ -1,6 +1,5 @@
 -- `yavdocsil::state::stage_from` meets its contract, an arm a case.
 -- Assumes nothing.
-use Rattle.yavdocsil.proofs.StateWords.{other-stage}
 use Rattle.yavdocsil.proofs.state.stage_from.Goals as goal
 
 pub returns-in-1 : goal.returns-in-1

@@ -1,6 +1,5 @@
 -- `yavdocsil::state::write_order` meets its contract: an order has an entry for each variable there can be.
 -- Assumes nothing.
-use borrow.Author.Rules.{rules}
 use mathlib.Core.Path.{◌≡◌, ap, ◌∙◌}
 use native.Mathlib.Omega.{arith}
 use lib.ListN.{length}

@@ -1,6 +1,5 @@
 -- `yavdocsil::state::write_state` meets its contract: the heading, then the order.
 -- Assumes nothing.
-use borrow.Author.Rules.{rules}
 use mathlib.Core.Path.{ap, ◌∙◌}
 use native.Mathlib.Omega.{arith}
 use Rattle.yavdocsil.specs.Words.{state_from}

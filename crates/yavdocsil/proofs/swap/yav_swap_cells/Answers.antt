@@ -1,6 +1,5 @@
 -- `yavdocsil::swap::yav_swap_cells` meets its contract: what `swap_cells` owes of its outcome is carried to the answer and the words.
 -- Assumes nothing.
-use borrow.Author.Rules.{rules}
 use mathlib.Core.Path.{refl, sym, ap, ◌∙◌, subst}
 use mathlib.Core.Bool.{true}
 use Rattle.diagram.specs.Demands.{NoneFits}
