@@ -2,7 +2,7 @@
 -- of `refusals`; every other law about answers follows.
 -- Assumes nothing.
 use mathlib.Core.Path.{◌≡◌, refl, sym, ap, subst}
-use mathlib.Core.Bool.{true, false}
+use mathlib.Core.Bool.{false}
 use mathlib.Core.List.{List, [], ◌∷◌}
 use mathlib.Core.Logic.{◌⊎◌, inl, inr, ⊎_elim}
 use Prim.Native.Nat.{ℕ, ◌<◌}
@@ -49,19 +49,12 @@ by-variant ShortGains = inr record { tagged = λ e. omega arith; numbered = omeg
 abbrev pub refusals : List ℕ
 refusals = 1 ∷ 2 ∷ 3 ∷ 4 ∷ 5 ∷ 6 ∷ 7 ∷ 8 ∷ 9 ∷ 10 ∷ 11 ∷ 12 ∷ 13 ∷ 14 ∷ 15 ∷ 16 ∷ 17 ∷ 18 ∷ []
 
--- those without a value
-abbrev pub plain-refusals : List ℕ
-plain-refusals = 1 ∷ 2 ∷ 3 ∷ 4 ∷ 5 ∷ 6 ∷ 7 ∷ 8 ∷ 9 ∷ 10 ∷ 11 ∷ 12 ∷ 14 ∷ 15 ∷ 16 ∷ 17 ∷ 18 ∷ []
-
 pub number-few : (a : Answer) → number a < 100
 number-few a = ⊎_elim (λ e. omega (arith, sym (ap number e))) (λ r. r.few) (by-variant a)
 
 -- an answer with the number 0 is a success with its value
 pub done-value : (a : Answer) → number a ≡ 0 → Done (value a) ≡ a
 done-value a e = ⊎_elim (λ d. d) (λ r. absurd (omega (arith, r.numbered))) (by-variant a)
-
-pub is-first : (a : Answer) → tag_of the_type a ≡ 0 → true ≡ done a
-is-first a e = ⊎_elim (λ d. ap done d) (λ r. absurd (r.tagged e)) (by-variant a)
 
 -- an answer that is no success
 pub is-other : (a : Answer) → ((v : ℕ) → a ≡ Done v → ⊥) → false ≡ done a
@@ -71,9 +64,3 @@ is-other a o =
 -- a success is none of the others
 pub never_other {ℓ} : {X : Type ℓ} (a : Answer) (v : ℕ) → a ≡ Done v → OneOf refusals (tag_of the_type a) → X
 never_other a v e k = absurd (miss refusals 0 tt (subst (λ (b : Answer). OneOf refusals (tag_of the_type b)) e k))
-
--- a refusal other than 23 has the value 0
-pub plain_value : (a : Answer) → OneOf plain-refusals (tag_of the_type a) → 0 ≡ value a
-plain_value a o =
-    ⊎_elim (λ d. absurd (miss plain-refusals 0 tt (subst (λ (b : Answer). OneOf plain-refusals (tag_of the_type b)) (sym d) o)))
-    (λ r. sym (r.plain (λ e. miss plain-refusals 13 tt (subst (OneOf plain-refusals) e o)))) (by-variant a)

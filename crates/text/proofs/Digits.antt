@@ -1,23 +1,13 @@
 -- The digits of a number, written in turn.
 -- Assumes nothing.
-use mathlib.Core.Path.{◌≡◌, refl, sym, ap}
+use mathlib.Core.Path.{◌≡◌, sym, ap}
 use mathlib.Core.List.{List, [], ◌∷◌, ◌++◌}
 use Prim.Native.Nat.{ℕ, zero, suc, ◌+◌, ◌-◌, ◌/◌, ◌%◌, ◌≤◌, ◌<◌}
 use native.Mathlib.Omega.{arith}
-use borrow.Author.Tests.{lt-ltb, le-ltb}
+use borrow.Author.Tests.{le-ltb}
 use Rattle.text.specs.Text.{space, digits, decimal, spaced}
 use Rattle.text.specs.Written.{Written}
 use Rattle.text.proofs.Writing.{written_then, written_as}
-
-pub digits-small : (f x : ℕ) → x < 10 → digits f x ≡ (48 + x % 10) ∷ []
-digits-small zero x h = refl
-digits-small (suc f) x h = rw (lt-ltb x 10 h) refl
-
-pub written-digit : {l m : List ℕ} {i j : ℕ} (f x : ℕ) → x < 10 → Written l m i j ((48 + x % 10) ∷ []) → Written l m i j (digits f x)
-written-digit f x h w = written_as (sym (digits-small f x h)) w
-
-pub written_last : {l m : List ℕ} {i j : ℕ} (f x : ℕ) → f ≡ 0 → Written l m i j ((48 + x % 10) ∷ []) → Written l m i j (digits f x)
-written_last f x e w = written_as (ap (λ (k : ℕ). digits k x) (sym e)) w
 
 pub digits_more : (f x : ℕ) → 10 ≤ x → 0 < f → digits f x ≡ digits (f - 1) (x / 10) ++ ((48 + x % 10) ∷ [])
 digits_more zero x h k = elim k [ ]

@@ -4,7 +4,6 @@ use mathlib.Core.Path.{◌≡◌, refl, ap, ap₂, ◌∙◌}
 use mathlib.Core.List.{List, [], ◌∷◌, ◌++◌, append_assoc}
 use Prim.Native.Nat.{ℕ, ◌≤◌}
 use native.Mathlib.Omega.{arith}
-use borrow.Author.Tests.{ne_eqb}
 use lib.ListN.{length, take, drop, length-drop}
 use lib.Seq.{paste, take_at, drop_at, take_all, length-take-le}
 use Rattle.diagram.specs.Networks.Bound.{most_variables}
@@ -12,10 +11,6 @@ use Rattle.table.specs.declared.State.{State}
 use Rattle.table.specs.declared.Stage.{Stage}
 use Rattle.table.specs.declared.Stage.TheVariants.{Nothing, Table as AtTable, Network}
 use Rattle.yavdocsil.specs.Words.{state_words, order_at, stage_from, stage_word, state_from, with_state}
-
--- a word that is no stage's number says nothing
-pub other-stage : (w : ℕ) → (w ≡ 1 → ⊥) → (w ≡ 2 → ⊥) → Nothing ≡ stage_from w
-other-stage w a b = rw (ne_eqb w 1 a, ne_eqb w 2 b)
 
 stage-again : (s : Stage) → stage_from (stage_word s) ≡ s
 stage-again Nothing = refl

@@ -22,12 +22,6 @@ use Rattle.matching.proofs.narrow_level.link_narrow.Goals as goal
 use Rattle.matching.proofs.narrow_level.link_narrow.Goals.{After-half_word-high_care, After-width_of, After-width_of-w}
 
 -- the bytes of a half's values, and of the part's
-narrow : (c : After-width_of-w) → c.width_of-w.result ≡ width c.args.d
-narrow c =
-    let few : c.args.d ≤ most_variables = omega (arith, c.requires.d_bound.0) in
-    c.width_of-w.ensures ∙ width-met c.args.d few
-
--- the bytes of a half's values, and of the part's
 narrow-2 : (c : After-half_word-high_care) → c.width_of-w.result ≡ width c.args.d
 narrow-2 c =
     let few : c.args.d ≤ most_variables = omega (arith, c.requires.d_bound.0) in

@@ -30,12 +30,6 @@ passed-3 c = sym c.is_done.ensures ∙ not-false _ c.if-not-is_done.false-raw
 passed-4 : (c : After-blocks_for-blocks) → done c.file_answer-answer.result ≡ true
 passed-4 c = sym c.is_done.ensures ∙ not-false _ c.if-not-is_done.false-raw
 
-good-file : (c : Else-not-is_done)
-    → Accepted c.args.file.now
-good-file c =
-    accepted c.args.file.now
-    (to-T (ap done (sym c.file_answer-answer.ensures) ∙ passed c))
-
 good-file-2 : (c : After-block_byte-n)
     → Accepted c.args.file.now
 good-file-2 c =
