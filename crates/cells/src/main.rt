@@ -4,13 +4,14 @@
 use filed::output::write_network_file;
 use fill::WORK;
 use lent::ROOTS;
-use libc::{STDIN_FILENO, STDOUT_FILENO};
 use network_file::FILE;
 use printed::built::CELL_NUMBERS;
 use printed::input::LONGEST;
+use std::io;
+use streams::read_full;
 use table::PLANE;
 
-fn main() {
+fn main(rt: HostRuntime) -> io::Result<()> {
     // One byte more than the longest input, to see that there is more.
     let mut file = [0u8; LONGEST + 1];
     let mut values = [0u8; PLANE];
@@ -19,7 +20,7 @@ fn main() {
     let mut roots = [0u16; ROOTS];
     let mut cells = [0u16; CELL_NUMBERS];
     let mut out = [0u8; FILE];
-    let length = io::read_full(STDIN_FILENO, &mut file);
+    let length = read_full(&mut rt.stdin(), &mut file)?;
     let end = write_network_file(
         &file[..length],
         &mut values,
@@ -29,5 +30,5 @@ fn main() {
         &mut cells,
         &mut out,
     );
-    io::write_all(STDOUT_FILENO, &out[..end]);
+    rt.stdout().write_all(&out[..end])
 }

@@ -3,13 +3,14 @@
 
 use fill::WORK;
 use lent::ROOTS;
-use libc::{STDIN_FILENO, STDOUT_FILENO};
 use printed::built::CELL_NUMBERS;
 use printed::input::LONGEST;
 use printed::output::{TEXT, print_table};
+use std::io;
+use streams::read_full;
 use table::PLANE;
 
-fn main() {
+fn main(rt: HostRuntime) -> io::Result<()> {
     // One byte more than the longest input, to see that there is more.
     let mut file = [0u8; LONGEST + 1];
     let mut values = [0u8; PLANE];
@@ -18,7 +19,7 @@ fn main() {
     let mut roots = [0u16; ROOTS];
     let mut cells = [0u16; CELL_NUMBERS];
     let mut out = [0u8; TEXT];
-    let length = io::read_full(STDIN_FILENO, &mut file);
+    let length = read_full(&mut rt.stdin(), &mut file)?;
     let end = print_table(
         &file[..length],
         &mut values,
@@ -28,5 +29,5 @@ fn main() {
         &mut cells,
         &mut out,
     );
-    io::write_all(STDOUT_FILENO, &out[..end]);
+    rt.stdout().write_all(&out[..end])
 }

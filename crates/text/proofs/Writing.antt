@@ -59,9 +59,6 @@ written_then {l} {m} {n} {i} {j} {k} {xs} {ys} v w =
 pub written_as : {l m : List ℕ} {i j : ℕ} {xs ys : List ℕ} → xs ≡ ys → Written l m i j xs → Written l m i j ys
 written_as {l} {m} {i} {j} e w = subst (λ (t : List ℕ). Written l m i j t) e w
 
-pub written-length : {l m : List ℕ} {i j : ℕ} {xs : List ℕ} → Written l m i j xs → length m ≡ length l
-written-length {l} {m} {i} {j} {xs} w = ap length w.content ∙ length-sets l i xs
-
 -- a word, one byte more, and the whole word
 pub written-keyword : {l m n : List ℕ} {i j k : ℕ} (w : List ℕ) (p : ℕ) → p < length w → Written l m i j (take p w)
     → Written m n j k (get_or w p 0 ∷ []) → Written l n i k (take (p + 1) w)

@@ -10,10 +10,6 @@ use lib.Seq.{sets, sets-eq}
 use Rattle.text.specs.Written.{Written}
 use Rattle.printed.specs.Built.{Whole}
 
-pub whole_room : {before after : List ℕ} {answered : ℕ} {text : List ℕ} → Whole before after answered text → answered ≤ length after
-whole_room {before} {after} {answered} {text} w =
-    omega (arith, w.end, ap length w.content, length-append text (drop (length text) before))
-
 -- where a text has room, both say the same
 module _ (before text : List ℕ) (h : length text ≤ length before) where
   stored : sets before 0 text ≡ text ++ drop (length text) before
