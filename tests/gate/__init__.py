@@ -1,1 +1,1 @@
-"""That the gate finds every test."""
+"""That the gate finds every test, passes nothing that it should refuse, and that the must-fail edits fit."""

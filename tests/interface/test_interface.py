@@ -169,9 +169,14 @@ class Names(unittest.TestCase):
     def test_soname(self):
         self.assertIn(f"SONAME               {SONAME}\n", printed("objdump", "-p", SHARED))
 
-    def test_links(self):
-        self.assertEqual(os.readlink(SHARED), SONAME)
-        self.assertRegex(os.readlink(SHARED.parent / SONAME), r"^libyavdocsil\.so\.1\.\d+\.\d+$")
+    def test_one_file(self):
+        """It has the name that programs are linked by, the one that they ask for, and its version's. None is a link: rt takes none."""
+        names = sorted(path.name for path in SHARED.parent.glob(f"{SHARED.name}*"))
+        self.assertEqual(names[:2], [SHARED.name, SONAME])
+        self.assertRegex(" ".join(names[2:]), r"^libyavdocsil\.so\.1\.\d+\.\d+$")
+        for name in names:
+            self.assertTrue((SHARED.parent / name).samefile(SHARED), name)
+        self.assertEqual([path for path in (ROOT / "target").rglob("*") if path.is_symlink()], [])
 
 
 class Header(WithFolder):

@@ -96,7 +96,7 @@ class Folder:
                 shutil.copytree(each, path / each.name)
             elif each.name not in ("target", ".git"):
                 (path / each.name).symlink_to(each)
-        for name in ("bin", "lib", "staticlib", "wheel"):
+        for name in ("bin", "lib", "wheel"):
             (path / "target" / name).symlink_to(texts.ROOT / "target" / name)
         # The manual page calls the command by its name alone.
         (path / "target" / "path").mkdir()

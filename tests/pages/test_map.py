@@ -122,7 +122,7 @@ class Checked(unittest.TestCase):
         for good, bad, path in (
             ("least", "leest", "crates/diagram/proofs/Demands.antt"), ("`build`", "`built`", "crates/network/src/build.rt"),
             # Names that stand in the file, but not as a definition there.
-            ("kept", "kept-at", "crates/diagram/proofs/Demands.antt"), ("`build`", "`lay_out`", "crates/network/src/build.rt"),
+            ("kept", "kept_at", "crates/diagram/proofs/Demands.antt"), ("`build`", "`lay_out`", "crates/network/src/build.rt"),
         ):
             self.assertEqual(faults(self.GOOD.replace(good, bad)), [f"{path}: it doesn't define {bad.strip('`')}"])
 

@@ -3,12 +3,12 @@
 
 use filed::output::write_network_file;
 use fill::WORK;
+use input::read_full;
 use lent::ROOTS;
 use network_file::FILE;
 use printed::built::CELL_NUMBERS;
 use printed::input::LONGEST;
 use std::io;
-use streams::read_full;
 use table::PLANE;
 
 fn main(rt: HostRuntime) -> io::Result<()> {

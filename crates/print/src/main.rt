@@ -2,12 +2,12 @@
 #![tactic(auto)]
 
 use fill::WORK;
+use input::read_full;
 use lent::ROOTS;
 use printed::built::CELL_NUMBERS;
 use printed::input::LONGEST;
 use printed::output::{TEXT, print_table};
 use std::io;
-use streams::read_full;
 use table::PLANE;
 
 fn main(rt: HostRuntime) -> io::Result<()> {

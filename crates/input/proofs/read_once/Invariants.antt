@@ -1,7 +1,7 @@
 -- A read that was interrupted has taken nothing.
 -- Assumes nothing.
 use Rattle.std.specs.Io.KnownBytes.{Keeps}
-use Rattle.streams.proofs.read_once.Given as goal
+use Rattle.input.proofs.read_once.Given as goal
 
 abbrev pub invariant-loop : goal.invariant-loop
 invariant-loop g l = Keeps (g.R.Read.remaining l.initial.reader) (g.R.Read.remaining l.reader)

@@ -5,7 +5,7 @@ use Rattle.std.proofs.lemmas.List.{take-append-le, places}
 use Rattle.std.proofs.Math.Seq.{take-append-add}
 use Rattle.std.specs.Io.KnownBytes.{Consumes}
 use Rattle.std.proofs.KnownBytes.{Consumes-trans}
-use Rattle.streams.proofs.read_full.Goals as goal
+use Rattle.input.proofs.read_full.Goals as goal
 
 take-joined : (f n : ℕ) (xs ys rest : List ℕ) → f ≤ length xs → n ≤ length ys → take (f + n) (take f xs ++ (ys ++ rest)) ≡ take f xs ++ take n ys
 take-joined f n xs ys rest within fits =
