@@ -12,6 +12,9 @@ Names that would have fallen together, and what they are instead:
     networkFile   network_file is a crate             network_file_bytes
     sumBelow      the lemma sum_below is of it        sum_below, and the lemma sum_below-part
     countLeft     the lemma count_left is of it       count_left, and the lemma count_left-done
+
+Where a definition and a lemma, or a name inside a proof, differ by their spelling alone and no file speaks of both, they
+are one name now, as partAt and part-at.
 """
 
 import os

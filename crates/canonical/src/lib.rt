@@ -5,5 +5,5 @@ pub mod held;
 mod reduced;
 mod walk;
 
-// How many slots the nodes are marked in; specs/inner/Reduced.antt has the definition, `slots`.
+// How many slots the nodes are marked in; specs/Inner/Reduced.antt has the definition, `slots`.
 const SLOTS: usize = 65536;

@@ -208,7 +208,7 @@ fn link_levels(
     entries
 }
 
-// How many pairs a list has room for; specs/inner/Exchange.antt has the definition, `most_pairs`.
+// How many pairs a list has room for; specs/Inner/Exchange.antt has the definition, `most_pairs`.
 const PAIRS: usize = 4350;
 
 // Links the outputs and the n levels where levels p and p + 1 are exchanged, with lists of its own.

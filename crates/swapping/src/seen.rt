@@ -10,7 +10,7 @@ ghost use Rattle.swapping.specs.Inner.Exchange.{pair_limit, pair_of, pairs_in, s
 use crate::pairs::{STORED, normal_of, opposite_pair};
 use block::numbers::lent_number;
 
-// How many slots there are; specs/inner/Exchange.antt has the definition, `slots`.
+// How many slots there are; specs/Inner/Exchange.antt has the definition, `slots`.
 pub(crate) const SLOTS: usize = 8192;
 
 // How many entries a list has after a pair is seen, and the number of the pair's link.
