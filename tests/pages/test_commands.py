@@ -200,6 +200,9 @@ class Checked(WithFolder):
         self.assertEqual(len(self.differing("    import os\n    print(1)\n\nIt prints:\n\n    2\n")), 1)
         self.assertEqual(len(self.differing("    import no_such_module\n")), 1)
 
+    def test_a_refusal_may_end_with_a_status(self):
+        self.assertEqual(self.differing("    $ echo refused 7; exit 1\n    refused 7\n"), [])
+
     def test_what_says_why_may_end_with_a_status(self):
         for said in ("refused 7", "yav: a.txt: it is no text", "different: first at this row"):
             self.assertEqual(self.differing(f"    $ echo {said}; exit 1\n    {said}\n"), [])
