@@ -9,7 +9,7 @@ ghost use Rattle.std.specs.IoError.{error_kind};
 use std::io::{Error, ErrorKind, Read, Result};
 
 // Reads until the buffer is full or the input ends, and answers how many bytes it put at the front. After a failure, what was read before
-// it stands there too.
+// it stands there too. What stands behind these bytes is left open: a reader may use all the room that it is lent.
 pub fn read_full<R: Read>(reader: &mut R, buf: &mut [u8]) -> Result<usize>
     ensures within { IfOk result (λ n. n ≤ length buf.new) }
     ensures bytes { IfOk result (λ n.

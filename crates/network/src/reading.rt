@@ -26,7 +26,8 @@ pub(crate) fn lay_out(
     roots: &mut [u16],
     cells: &mut [u16],
 )
-    requires n_le_most_variables { (n ≤ most_variables) × (m ≤ most_outputs) × (level_at m entries n ≤ work_size) × (level_at m entries n ≤ length work.old) }
+    requires n_le_most_variables { (n ≤ most_variables) × (m ≤ most_outputs)
+        × (level_at m entries n ≤ work_size) × (level_at m entries n ≤ length work.old) }
     requires total_value { (total ≡ sum_below (λ q. get_or counts q 0) n) × (2 * total + 1 < stored_limit) × (3 * total ≤ length cells.old) }
     requires roots_size_in_bounds { roots_size ≤ length roots.old }
     requires by_index { (q : ℕ) → q < n → (levels_made m entries counts q (n - q) (made work.old cells.old 0)).next ≤ total }

@@ -106,7 +106,8 @@ module _ (node : ℕ → Node) (p q : ℕ) (seen : List ℕ) (at : ℕ) (work₀
     turns_more x ex len len' list list' marks marks' work work' t S ew =
         let gs = entries_from [] (halves_of j) in
         let hs = half_pairs node p q (pair_of x ∷ []) in
-        let more : halves_of (j + 1) ≡ halves_of j ++ hs = more-halves ∙ ap (λ (y : ℕ). halves_of j ++ half_pairs node p q (pair_of y ∷ [])) (sym ex) in
+        let more : halves_of (j + 1) ≡ halves_of j ++ hs =
+        more-halves ∙ ap (λ (y : ℕ). halves_of j ++ half_pairs node p q (pair_of y ∷ [])) (sym ex) in
         let ls = links_from [] (halves_of j) in
         let le : links_from [] (halves_of (j + 1)) ≡ ls ++ links_from gs hs = ap (links_from []) more ∙ links-append [] (halves_of j) hs in
         let k : at + 4 * j ≡ at + 2 * length ls = omega (arith, links-even) in

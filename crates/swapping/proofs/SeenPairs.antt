@@ -89,7 +89,11 @@ module _ (list : List ℕ) where
         (λ q. let t : T (has same_pair (normal_pair (pair_of x)) (classes_of (pairs_in len list))) =
         to-T (sym (has-class (pair_of x) (pairs_in len list)) ∙ q) in
         let i = index same_pair (normal_pair (pair_of x)) (classes_of (pairs_in len list)) in
-        let h : i < len = omega (arith, index-lt same_pair pair-equality (normal_pair (pair_of x)) (classes_of (pairs_in len list)) t, classes-length) in
+        let h : i < len = omega (
+          arith,
+          index-lt same_pair pair-equality (normal_pair (pair_of x)) (classes_of (pairs_in len list)) t,
+          classes-length,
+        ) in
         let same : normal_pair (pair_of (get_or list i 0)) ≡ normal_pair (pair_of x) =
         sym (class-at len i h)
         ∙ get_or-index same_pair pair-equality (normal_pair (pair_of x)) (classes_of (pairs_in len list)) (normal_pair (both 0)) t in

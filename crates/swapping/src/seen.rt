@@ -104,7 +104,8 @@ fn find_entry(x: usize, o: usize, slot: usize, list: &[u32], len: usize, marks: 
 pub(crate) fn place(x: usize, list: &mut [u32], len: usize, marks: &mut [u16]) -> Placed
     requires { (x < pair_limit) × Seen len list.old marks.old × (len < length list.old) × (2 * length list.old < stored_limit) }
     ensures seen { Shows (entries_after (pairs_in len list.old) (pair_of x)) result.len list.new marks.new }
-    ensures link { (result.link ≡ link_number (link_into (entries_after (pairs_in len list.old) (pair_of x)) (pair_of x))) × (result.link < stored_limit) }
+    ensures link { (result.link ≡ link_number (link_into (entries_after (pairs_in len list.old) (pair_of x)) (pair_of x)))
+        × (result.link < stored_limit) }
 {
     if is_constant(x) {
         return Placed {

@@ -35,7 +35,11 @@ success k =
 pub zero-requires : goal.zero-requires
 zero-requires c =
     let a = c.args in
-    omega (sizes, (done_held a.state a.values.now a.care.now a.work.now (success (goal.at.zero-requires c).In-Done)).0, c.fill_table-levels.auto.work)
+    omega (
+      sizes,
+      (done_held a.state a.values.now a.care.now a.work.now (success (goal.at.zero-requires c).In-Done)).0,
+      c.fill_table-levels.auto.work,
+    )
 
 pub returns-in-Done : goal.returns-in-Done
 unfolding links_at
@@ -51,7 +55,10 @@ returns-in-Done c =
 pub returns-in_default : goal.returns-in_default
 returns-in_default c =
     let a = c.args in
-    let d : done (count_answer a.state a.values.now a.care.now a.work.now) ≡ false = sym (ap done (answer (goal.at.returns-in_default c).After-fill_table-levels)) ∙ sym (is-other c.fill_table-levels.result.answer c.in_default.not-Done) in record {
+    let d : done (count_answer a.state a.values.now a.care.now a.work.now) ≡ false = sym
+    (ap done (answer (goal.at.returns-in_default c).After-fill_table-levels))
+    ∙ sym (is-other c.fill_table-levels.result.answer c.in_default.not-Done) in
+    record {
       levels = c.fill_table-levels.ensures.levels;
       work = count-refused a.state a.values.now a.care.now a.work.now c.fill_table-levels.new.work d c.fill_table-levels.ensures.work;
     }

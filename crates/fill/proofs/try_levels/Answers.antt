@@ -13,35 +13,41 @@ use Rattle.fill.proofs.try_levels.Goals.{Else-not-holds_table}
 
 pub returns-then-values-lt-PLANE : goal.returns-then-values-lt-PLANE
 returns-then-values-lt-PLANE c =
-    let a = c.args in let all = trials-refused a.state a.except a.values.now a.care.now a.counts.now a.work.now ShortBuffer
+    let a = c.args in
+    let all = trials-refused a.state a.except a.values.now a.care.now a.counts.now a.work.now ShortBuffer
     (trials-values a.state a.except a.values.now a.care.now a.counts.now a.work.now
     (omega (trial_sizes, c.if-values-lt-PLANE.true))) refl in record { answer = all.0; counts = all.1.0; work = all.1.1 }
 
 pub returns-then-care-lt-PLANE : goal.returns-then-care-lt-PLANE
 returns-then-care-lt-PLANE c =
-    let a = c.args in let all = trials-refused a.state a.except a.values.now a.care.now a.counts.now a.work.now ShortBuffer
+    let a = c.args in
+    let all = trials-refused a.state a.except a.values.now a.care.now a.counts.now a.work.now ShortBuffer
     (trials-care a.state a.except a.values.now a.care.now a.counts.now a.work.now
     (omega (trial_sizes, c.if-care-lt-PLANE.true))) refl in record { answer = all.0; counts = all.1.0; work = all.1.1 }
 
 pub returns-then-work-lt-WORK : goal.returns-then-work-lt-WORK
 returns-then-work-lt-WORK c =
-    let a = c.args in let all = trials-refused a.state a.except a.values.now a.care.now a.counts.now a.work.now ShortBuffer
+    let a = c.args in
+    let all = trials-refused a.state a.except a.values.now a.care.now a.counts.now a.work.now ShortBuffer
     (trials-work a.state a.except a.values.now a.care.now a.counts.now a.work.now
     (omega (trial_sizes, c.if-work-lt-WORK.true))) refl in record { answer = all.0; counts = all.1.0; work = all.1.1 }
 
 pub returns-then-counts-lt-COUNTS : goal.returns-then-counts-lt-COUNTS
 returns-then-counts-lt-COUNTS c =
-    let a = c.args in let all = trials-refused a.state a.except a.values.now a.care.now a.counts.now a.work.now ShortBuffer
+    let a = c.args in
+    let all = trials-refused a.state a.except a.values.now a.care.now a.counts.now a.work.now ShortBuffer
     (trials-counts a.state a.except a.values.now a.care.now a.counts.now a.work.now
     (omega (trial_sizes, c.if-counts-lt-COUNTS.true))) refl in record { answer = all.0; counts = all.1.0; work = all.1.1 }
 
 pub returns-then-not-holds_table : goal.returns-then-not-holds_table
 returns-then-not-holds_table c =
-    let a = c.args in let all = trials-refused a.state a.except a.values.now a.care.now a.counts.now a.work.now NoTable
+    let a = c.args in
+    let all = trials-refused a.state a.except a.values.now a.care.now a.counts.now a.work.now NoTable
     (trials-none a.state a.except a.values.now a.care.now a.counts.now a.work.now
     (omega (trial_sizes, c.if-values-lt-PLANE.false)) (omega (trial_sizes, c.if-care-lt-PLANE.false))
     (omega (trial_sizes, c.if-work-lt-WORK.false)) (omega (trial_sizes, c.if-counts-lt-COUNTS.false))
-    (sym c.holds_table.ensures ∙ not-true c.holds_table.result c.if-not-holds_table.true-raw)) refl in record { answer = all.0; counts = all.1.0; work = all.1.1 }
+    (sym c.holds_table.ensures ∙ not-true c.holds_table.result c.if-not-holds_table.true-raw)) refl in record
+    { answer = all.0; counts = all.1.0; work = all.1.1 }
 
 held : (c : Else-not-holds_table)
     → not (is_nothing (stage_of c.args.state)) ≡ true
@@ -60,7 +66,8 @@ returns c =
     let t = trials-tried a.state a.except a.values.now a.care.now a.counts.now a.work.now
     (trials-done a.state a.except a.values.now a.care.now a.counts.now a.work.now
     (omega (trial_sizes, c.if-values-lt-PLANE.false)) (omega (trial_sizes, c.if-care-lt-PLANE.false))
-    (omega (trial_sizes, c.if-work-lt-WORK.false)) (omega (trial_sizes, c.if-counts-lt-COUNTS.false)) (held (goal.at.returns c).Else-not-holds_table)) in
+    (omega (trial_sizes, c.if-work-lt-WORK.false)) (omega (trial_sizes, c.if-counts-lt-COUNTS.false))
+    (held (goal.at.returns c).Else-not-holds_table)) in
     let q = trials-zero 20480 a.work.now c.try_held.new.work c.zero.new.l (sym trials-size)
     c.try_held.ensures.behind c.zero.ensures in record {
       answer = t.0;

@@ -7,7 +7,8 @@ use Rattle.std.specs.Io.KnownBytes.{Consumes}
 use Rattle.std.proofs.KnownBytes.{Consumes-trans}
 use Rattle.input.proofs.read_full.Goals as goal
 
-take-joined : (f n : ℕ) (xs ys rest : List ℕ) → f ≤ length xs → n ≤ length ys → take (f + n) (take f xs ++ (ys ++ rest)) ≡ take f xs ++ take n ys
+take-joined : (f n : ℕ) (xs ys rest : List ℕ) → f ≤ length xs → n ≤ length ys
+    → take (f + n) (take f xs ++ (ys ++ rest)) ≡ take f xs ++ take n ys
 take-joined f n xs ys rest within fits =
     ap (λ k. take (k + n) (take f xs ++ (ys ++ rest))) (sym (length-take-le f xs within)) ∙ take-append-add (take f xs) (ys ++ rest) n
     ∙ ap (λ l. take f xs ++ l) (take-append-le n ys rest fits)

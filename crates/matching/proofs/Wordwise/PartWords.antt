@@ -61,7 +61,8 @@ module _ {B : Type 0} (Q : ℕ → ℕ → ℕ → ℕ → B) where
 
   -- the same, where the bytes are those of parts
   each_part : (w f c g d : ℕ)
-      → map (λ j. Q (value_byte (part_of w f c) j) (care_byte w (part_of w f c) j) (value_byte (part_of w g d) j) (care_byte w (part_of w g d) j)) (up_to w)
+      → map (λ j. Q (value_byte (part_of w f c) j) (care_byte w (part_of w f c) j) (value_byte (part_of w g d) j)
+      (care_byte w (part_of w g d) j)) (up_to w)
       ≡ each w f c g d
   each_part w f c g d =
       let value : (x y j : ℕ) → j < w → value_byte (part_of w x y) j ≡ get_or (bytes_of w x) j 0 =

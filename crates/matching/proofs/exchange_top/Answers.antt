@@ -9,7 +9,10 @@ returns-then-not-parts_fit c =
 
 pub exchange_parts-requires : goal.exchange_parts-requires
 exchange_parts-requires c =
-    let a = c.args in let all = (parts-say a.d a.from a.count (length a.work.now)).told (passed c.parts_fit.ensures c.if-not-parts_fit.false-raw) in record { d_bound = all.0; d_in_bounds = all.1 }
+    let a = c.args in
+    let all = (parts-say a.d a.from a.count (length a.work.now)).told
+    (passed c.parts_fit.ensures c.if-not-parts_fit.false-raw) in
+    record { d_bound = all.0; d_in_bounds = all.1 }
 
 pub returns : goal.returns
 returns c =

@@ -13,8 +13,16 @@ returns-then-not-level_fits c =
 
 pub level-requires : goal.level-requires
 level-requires c =
-    let a = c.args in let all = (level-says a.d a.from a.count a.to a.links (length a.work.now)).told
-    (passed c.level_fits.ensures c.if-not-level_fits.false-raw) in record { d_lt_most_variables = all.0; fact = all.1.0; region_size_bound = all.1.1.0; d_bound = all.1.1.1.0; word_size_in_bounds = all.1.1.1.1 }
+    let a = c.args in
+    let all = (level-says a.d a.from a.count a.to a.links (length a.work.now)).told
+    (passed c.level_fits.ensures c.if-not-level_fits.false-raw) in
+    record {
+      d_lt_most_variables = all.0;
+      fact = all.1.0;
+      region_size_bound = all.1.1.0;
+      d_bound = all.1.1.1.0;
+      word_size_in_bounds = all.1.1.1.1;
+    }
 
 pub returns : goal.returns
 returns c =

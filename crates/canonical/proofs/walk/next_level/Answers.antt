@@ -10,7 +10,9 @@ pub spread_level-size-requires : goal.spread_level-size-requires
 spread_level-size-requires c =
     let a = c.args in
     let l = c.requires.p_lt_most_variables.1 in
-    let none = none-later (a.p + 1) a.len a.seen.now a.marks.now l a.below.now c.requires.marks_in_bounds (a.p + 2) (omega arith) in record {
+    let none = none-later (a.p + 1) a.len a.seen.now a.marks.now l a.below.now c.requires.marks_in_bounds (a.p + 2)
+    (omega arith) in
+    record {
       listed = (none, c.requires.p_lt_most_variables.2);
       len_in_bounds = (l.fits, l.within);
     }

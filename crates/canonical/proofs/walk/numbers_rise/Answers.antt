@@ -12,7 +12,11 @@ pub walk-requires : goal.walk-requires
 walk-requires c =
     let a = c.args in
     let e = sym (marks-count a.count c.requires.n_le_most_variables.1) in record {
-      n_le_most_variables = (c.requires.n_le_most_variables.0, marks-zero a.count c.requires.n_le_most_variables.1, subst (λ (k : ℕ). Own k a.cells.now) e c.requires.n_le_most_variables.2);
+      n_le_most_variables = (
+        c.requires.n_le_most_variables.0,
+        marks-zero a.count c.requires.n_le_most_variables.1,
+        subst (λ (k : ℕ). Own k a.cells.now) e c.requires.n_le_most_variables.2,
+      );
       marks_in_bounds = (lists-room a.count c.requires.n_le_most_variables.1, c.requires.n_le_most_variables.3);
       by_index = subst (λ (k : ℕ). (j : ℕ) → j < a.m → get_or a.roots.now j 0 ≤ k + k + 1) e c.requires.by_index;
     }

@@ -48,9 +48,17 @@ next_level-len-requires c =
       p_lt_most_variables = (
         omega (arith, c.requires.n_le_most_variables.0, c.loop-p-test.true),
         l.invariant.0.listed,
-        subst (λ (k : ℕ). Own k a.cells.now) (sym (l.invariant.3 ∙ counted (goal.at.next_level-len-requires c).After-spread_roots-len)) c.requires.n_le_most_variables.2,
+        subst (λ (k : ℕ). Own k a.cells.now)
+            (sym (l.invariant.3 ∙ counted (goal.at.next_level-len-requires c).After-spread_roots-len))
+            c.requires.n_le_most_variables.2,
       );
-      marks_in_bounds = omega (arith, l.invariant.2, l.invariant.3, counted (goal.at.next_level-len-requires c).After-spread_roots-len, c.requires.marks_in_bounds.0);
+      marks_in_bounds = omega (
+        arith,
+        l.invariant.2,
+        l.invariant.3,
+        counted (goal.at.next_level-len-requires c).After-spread_roots-len,
+        c.requires.marks_in_bounds.0,
+      );
     }
 
 pub loop-p-preserved : goal.loop-p-preserved

@@ -11,8 +11,25 @@ use Rattle.filed.proofs.output.write_network_file.Goals as goal
 
 pub returns : goal.returns
 returns c =
-    let a = c.args in let all = all_left a.file.now a.values.now a.care.now a.work.now a.roots.now a.cells.now a.out.now
+    let a = c.args in
+    let all = all_left a.file.now a.values.now a.care.now a.work.now a.roots.now a.cells.now a.out.now
     (c.write_input-arg-1.given.0.1 ∙ sym plane-size) (c.write_input-arg-2-1.given.0.1 ∙ sym plane-size)
     (omega (arith, c.write_input-arg-3-1.given.0.1, work-size)) (omega (arith, c.write_input-arg-4-1.given.0.1, roots-size))
-    (omega (arith, c.write_input-arg-5-1.given.0.1)) (omega (arith, c.write_input-arg-6-1.given.0.1, file-size)) _ _ _ _ _
-    (c.write_input.ensures.text, (c.write_input.ensures.values, (c.write_input.ensures.care, (c.write_input.ensures.work, (c.write_input.ensures.roots, c.write_input.ensures.cells))))) in record { text = all.0; values = all.1.0; care = all.1.1.0; work = all.1.1.1.0; roots = all.1.1.1.1.0; cells = all.1.1.1.1.1 }
+    (omega (arith, c.write_input-arg-5-1.given.0.1)) (omega (arith, c.write_input-arg-6-1.given.0.1, file-size)) _ _ _ _ _ (
+      c.write_input.ensures.text,
+      (
+        c.write_input.ensures.values,
+        (
+          c.write_input.ensures.care,
+          (c.write_input.ensures.work, (c.write_input.ensures.roots, c.write_input.ensures.cells)),
+        ),
+      ),
+    ) in
+    record {
+      text = all.0;
+      values = all.1.0;
+      care = all.1.1.0;
+      work = all.1.1.1.0;
+      roots = all.1.1.1.1.0;
+      cells = all.1.1.1.1.1;
+    }

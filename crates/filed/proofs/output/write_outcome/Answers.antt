@@ -7,10 +7,14 @@ use Rattle.filed.proofs.output.write_outcome.Goals as goal
 
 pub returns-then-not-is_done : goal.returns-then-not-is_done
 returns-then-not-is_done c =
-    let a = c.args in let all = filed-unbuilt a.outcome a.roots.now a.cells.now a.work.now a.out.now
+    let a = c.args in
+    let all = filed-unbuilt a.outcome a.roots.now a.cells.now a.work.now a.out.now
     (sym c.is_done.ensures ∙ not-true _ c.if-not-is_done.true-raw) c.refusal.ensures in record { text = all.0; work = all.1 }
 
 pub returns : goal.returns
 returns c =
-    let a = c.args in let all = filed-built a.outcome a.roots.now a.cells.now a.work.now a.out.now _
-    (sym c.is_done.ensures ∙ not-false _ c.if-not-is_done.false-raw) c.write_held.ensures.text c.write_held.ensures.work in record { text = all.0; work = all.1 }
+    let a = c.args in
+    let all = filed-built a.outcome a.roots.now a.cells.now a.work.now a.out.now _
+    (sym c.is_done.ensures ∙ not-false _ c.if-not-is_done.false-raw) c.write_held.ensures.text c.write_held.ensures.work
+    in
+    record { text = all.0; work = all.1 }

@@ -31,10 +31,18 @@ pub returns-then-long-lt-WORK : goal.returns-then-long-lt-WORK
 unfolding links_fit
 returns-then-long-lt-WORK c =
     let a = c.args in
-    rw (levels (goal.at.returns-then-long-lt-WORK c).Else-n-gt-VARIABLES, outputs (goal.at.returns-then-long-lt-WORK c).Else-m-gt-OUTPUTS, lt-leb work_size a.long (omega (sizes, c.if-long-lt-WORK.true)))
+    rw (
+      levels (goal.at.returns-then-long-lt-WORK c).Else-n-gt-VARIABLES,
+      outputs (goal.at.returns-then-long-lt-WORK c).Else-m-gt-OUTPUTS,
+      lt-leb work_size a.long (omega (sizes, c.if-long-lt-WORK.true)),
+    )
 
 pub returns : goal.returns
 unfolding links_fit work_size links_at
 returns c =
     let a = c.args in
-    rw (levels (goal.at.returns c).Else-n-gt-VARIABLES, outputs (goal.at.returns c).Else-m-gt-OUTPUTS, le-leb work_size a.long c.if-long-lt-WORK.false) c.ends_within.ensures
+    rw (
+      levels (goal.at.returns c).Else-n-gt-VARIABLES,
+      outputs (goal.at.returns c).Else-m-gt-OUTPUTS,
+      le-leb work_size a.long c.if-long-lt-WORK.false,
+    ) c.ends_within.ensures

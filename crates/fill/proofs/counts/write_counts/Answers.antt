@@ -42,4 +42,5 @@ returns c =
     let a = c.args in
     l.invariant.1
     ∙ ap (λ (n : ℕ). splice a.counts.now (most_variables * a.p) (take n a.levels)) (le_antisymm l.invariant.0 c.loop-l-test.false)
-    ∙ ap (splice a.counts.now (most_variables * a.p)) (take_all most_variables a.levels (omega (trial_sizes, (within (goal.at.returns c).Start).0)))
+    ∙ ap (splice a.counts.now (most_variables * a.p))
+    (take_all most_variables a.levels (omega (trial_sizes, (within (goal.at.returns c).Start).0)))

@@ -55,7 +55,8 @@ overflow_sub-to c =
 pub level_below-next-requires : goal.level_below-next-requires
 level_below-next-requires c =
     let l = c.loop-d in
-    let t = going-asks c.args.n (top (goal.at.level_below-next-requires c).In-loop-d) (first (goal.at.level_below-next-requires c).In-loop-d) c.args.work.now c.requires.n_le_most_variables.2
+    let t = going-asks c.args.n (top (goal.at.level_below-next-requires c).In-loop-d)
+    (first (goal.at.level_below-next-requires c).In-loop-d) c.args.work.now c.requires.n_le_most_variables.2
     (l.d - 1) l.from l.at l.k l.work l.entries (down (goal.at.level_below-next-requires c).In-loop-d)
     l.invariant.2 in record {
       d_lt_most_variables = omega (sizes, c.requires.n_le_most_variables.0);
@@ -78,7 +79,8 @@ loop-d-preserved c =
     let l = c.loop-d in
     let r = c.level_below-next in
     let e : c.args.n - l.d ≡ c.args.n - suc (l.d - 1) = omega sizes in
-    let g = going_on c.args.n (top (goal.at.loop-d-preserved c).In-loop-d) (first (goal.at.loop-d-preserved c).In-loop-d) c.args.work.now c.requires.n_le_most_variables.2
+    let g = going_on c.args.n (top (goal.at.loop-d-preserved c).In-loop-d)
+    (first (goal.at.loop-d-preserved c).In-loop-d) c.args.work.now c.requires.n_le_most_variables.2
     (l.d - 1) l.from l.at l.k l.work l.entries (down (goal.at.loop-d-preserved c).In-loop-d)
     r.result r.new.work (set l.entries (c.args.n - l.d) l.k) c.requires.n_le_most_variables.0 r.ensures.entries r.ensures.work
     (ap (λ (j : ℕ). set l.entries j l.k) e) in
@@ -92,4 +94,6 @@ returns c =
     let e : l.d ≡ 0 = omega sizes in
     let parts = parts_at a.n a.count 0 w in
     let first = links_up_to a.links w in
-    let g = subst (λ (d : ℕ). Going a.n parts first w d l.from l.at l.k l.work l.entries) e l.invariant.1 in let all = going-last a.n parts first w c.requires.n_le_most_variables.2 l.from l.at l.k l.work l.entries g in record { entries = all.0; work = all.1 }
+    let g = subst (λ (d : ℕ). Going a.n parts first w d l.from l.at l.k l.work l.entries) e l.invariant.1 in
+    let all = going-last a.n parts first w c.requires.n_le_most_variables.2 l.from l.at l.k l.work l.entries g in
+    record { entries = all.0; work = all.1 }

@@ -9,7 +9,9 @@ use Rattle.fill.proofs.Descents.WayDown.{Going}
 use Rattle.fill.proofs.descent.descend.Given as goal
 
 abbrev pub invariant-loop-d : goal.invariant-loop-d
-invariant-loop-d l = (l.d ≤ l.n) × Going l.n (parts_at l.n l.count 0 l.initial.work) (links_up_to l.links l.initial.work) l.initial.work l.d l.from l.at l.k l.work l.entries
+invariant-loop-d l = (l.d ≤ l.n)
+    × Going l.n (parts_at l.n l.count 0 l.initial.work) (links_up_to l.links l.initial.work) l.initial.work l.d l.from
+    l.at l.k l.work l.entries
     × (length l.work ≡ length l.initial.work)
 
 abbrev pub decreases-loop-d : goal.decreases-loop-d

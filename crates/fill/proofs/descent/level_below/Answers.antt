@@ -37,5 +37,6 @@ returns c =
     let a = c.args in record {
       entries = c.level-entries.ensures.entries;
       work = c.zero.ensures
-          ∙ ap₂ (λ (y : List ℕ) (v : ℕ). splice y a.from (replicate (a.count * (v + v)) 0)) c.level-entries.ensures.work (wide (goal.at.returns c).After-width_of-v);
+          ∙ ap₂ (λ (y : List ℕ) (v : ℕ). splice y a.from (replicate (a.count * (v + v)) 0)) c.level-entries.ensures.work
+          (wide (goal.at.returns c).After-width_of-v);
     }

@@ -17,7 +17,8 @@ pub descend-entries-requires : goal.descend-entries-requires
 unfolding links_at
 descend-entries-requires c =
     let a = c.args in
-    let r = c.first_level-count in let rest = asks a.state a.values.now a.care.now c.requires.t a.work.now c.requires.work_size_in_bounds
+    let r = c.first_level-count in
+    let rest = asks a.state a.values.now a.care.now c.requires.t a.work.now c.requires.work_size_in_bounds
     r.result r.new.work r.ensures.entries
     r.ensures.work in record {
       n_le_most_variables = (

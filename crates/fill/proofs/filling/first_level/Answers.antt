@@ -28,7 +28,8 @@ returns c =
     let a = c.args in
     let st = a.state in
     let z = c.zero in
-    let rows = c.row_map-rows.result in let all = first-is (drawn_outputs st a.values.now a.care.now) a.work.now z.new.l
+    let rows = c.row_map-rows.result in
+    let all = first-is (drawn_outputs st a.values.now a.care.now) a.work.now z.new.l
     (map (gathered_part a.values.now a.care.now rows st.n) (up_to st.m))
     c.link_outputs.result c.link_outputs.new.work
     (outputs-encode st.n st.m a.values.now a.care.now st.order rows (few-inputs st c.requires.t) c.row_map-rows.ensures)

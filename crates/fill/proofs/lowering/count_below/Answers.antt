@@ -36,13 +36,17 @@ level-next-requires c =
     let l = c.loop-e in
     let a = c.args in
     let g = l.invariant in
-    let t = counted-asks a.p a.d a.above a.work.now c.requires.region_size_bound.1 (top (goal.at.level-next-requires c).In-loop-e) (l.e - 1) l.l l.a l.to l.k
+    let t = counted-asks a.p a.d a.above a.work.now c.requires.region_size_bound.1
+    (top (goal.at.level-next-requires c).In-loop-e) (l.e - 1) l.l l.a l.to l.k
     l.work l.counts (down (goal.at.level-next-requires c).In-loop-e) in record {
       d_lt_most_variables = omega (trial_sizes, c.requires.d_bound.0, g.levels);
       fact = g.apart;
       region_size_bound = t.0;
       d_bound = t.1;
-      word_size_in_bounds = (omega (trial_sizes, c.requires.region_size_bound.1, g.same, t.0.0), omega (trial_sizes, c.requires.region_size_bound.1, g.same, t.0.1));
+      word_size_in_bounds = (
+        omega (trial_sizes, c.requires.region_size_bound.1, g.same, t.0.0),
+        omega (trial_sizes, c.requires.region_size_bound.1, g.same, t.0.1),
+      );
     }
 
 -- the links lie in the work buffer
@@ -66,7 +70,8 @@ pub loop-e-preserved : goal.loop-e-preserved
 loop-e-preserved c =
     let l = c.loop-e in
     let a = c.args in
-    counted-on a.p a.d a.above a.work.now c.requires.region_size_bound.1 (top (goal.at.loop-e-preserved c).In-loop-e) (l.e - 1) l.l l.a l.to l.k
+    counted-on a.p a.d a.above a.work.now c.requires.region_size_bound.1 (top (goal.at.loop-e-preserved c).In-loop-e)
+    (l.e - 1) l.l l.a l.to l.k
     l.work l.counts (down (goal.at.loop-e-preserved c).In-loop-e) c.level-next.result c.differing_pairs.result c.level-next.new.work
     (set l.counts l.l c.differing_pairs.result) c.requires.d_bound.0 c.level-next.auto.work
     c.level-next.ensures.entries c.level-next.ensures.work c.differing_pairs.ensures refl

@@ -5,7 +5,8 @@ use Rattle.fill.proofs.Lowered.LevelsCounted.{Counted}
 use Rattle.fill.proofs.lowering.count_below.Given as goal
 
 abbrev pub invariant-loop-e : goal.invariant-loop-e
-invariant-loop-e l = Counted l.p l.d l.initial.counts (parts_at l.d l.count l.from l.initial.work) l.initial.work l.e l.l l.a l.to l.k l.work l.counts
+invariant-loop-e l = Counted l.p l.d l.initial.counts (parts_at l.d l.count l.from l.initial.work) l.initial.work l.e
+    l.l l.a l.to l.k l.work l.counts
 
 abbrev pub decreases-loop-e : goal.decreases-loop-e
 decreases-loop-e l = l.e

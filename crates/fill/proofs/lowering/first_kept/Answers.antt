@@ -20,7 +20,8 @@ pub returns : goal.returns
 returns c =
     let a = c.args in
     let st = a.state in
-    let rows = c.row_map-rows.result in let all = first-kept (drawn_outputs st a.values.now a.care.now) (few-inputs st c.requires.t)
+    let rows = c.row_map-rows.result in
+    let all = first-kept (drawn_outputs st a.values.now a.care.now) (few-inputs st c.requires.t)
     (few st a.values.now a.care.now c.requires.t) a.work.now c.requires.work_size_in_bounds
     (map (gathered_part a.values.now a.care.now rows st.n) (up_to st.m)) c.link_outputs.result
     c.link_outputs.new.work

@@ -35,7 +35,8 @@ loop-p-init c =
     let w = c.first_kept-entries.new.work in
     let e : a.state.n ≡ a.state.n - 0 = omega trial_sizes in
     let t = trial-first a.state a.except a.values.now a.care.now a.counts.now w c.requires.t
-    (omega (trial_sizes, c.requires.work_size_in_bounds.0, c.first_kept-entries.auto.work)) c.first_kept-entries.result c.first_kept-entries.ensures.entries
+    (omega (trial_sizes, c.requires.work_size_in_bounds.0, c.first_kept-entries.auto.work)) c.first_kept-entries.result
+    c.first_kept-entries.ensures.entries
     c.first_kept-entries.ensures.parts in (
       omega (trial_sizes, c.if-state-eq0.false),
       subst (λ (d : ℕ). Trial a.state a.except a.values.now a.care.now a.counts.now w d 0 0 c.first_kept-entries.result
@@ -81,7 +82,8 @@ asks l d e some =
 
 pub count_kept-requires : goal.count_kept-requires
 count_kept-requires c =
-    let all = asks (goal.at.count_kept-requires c).At-loop-p (c.args.state.n - c.loop-p.p) refl (omega trial_sizes) in record { d_bound = all.0; region_size_bound = all.1.0; t = all.1.1 }
+    let all = asks (goal.at.count_kept-requires c).At-loop-p (c.args.state.n - c.loop-p.p) refl (omega trial_sizes) in
+    record { d_bound = all.0; region_size_bound = all.1.0; t = all.1.1 }
 
 pub overflow_sub-state-in-loop-p : goal.overflow_sub-state-in-loop-p
 overflow_sub-state-in-loop-p c =
@@ -113,10 +115,15 @@ lower-kept-requires c =
     let a = c.args in
     let k = c.loop-p.kept in
     let d = a.state.n - c.loop-p.p - 2 in
-    let q = c.count_kept in let all = lower-asks a.state a.except a.values.now a.care.now a.counts.now (found (goal.at.lower-kept-requires c).At-loop-p) c.requires.t (found-big (goal.at.lower-kept-requires c).At-loop-p)
-    d c.loop-p.p k.from k.entries k.above c.loop-p.work c.loop-p.counts (down (goal.at.lower-kept-requires c).At-loop-p (suc (suc d)) (more (goal.at.lower-kept-requires c).After-count_kept).1)
+    let q = c.count_kept in
+    let all = lower-asks a.state a.except a.values.now a.care.now a.counts.now
+    (found (goal.at.lower-kept-requires c).At-loop-p) c.requires.t (found-big (goal.at.lower-kept-requires c).At-loop-p)
+    d c.loop-p.p k.from k.entries k.above c.loop-p.work c.loop-p.counts
+    (down (goal.at.lower-kept-requires c).At-loop-p (suc (suc d))
+    (more (goal.at.lower-kept-requires c).After-count_kept).1)
     q.new.work q.new.counts q.ensures.kept q.ensures.behind
-    q.auto.work q.auto.counts (tried (goal.at.lower-kept-requires c).After-count_kept) in record { d_bound = all.0; fact = all.1.0; t = all.1.1 }
+    q.auto.work q.auto.counts (tried (goal.at.lower-kept-requires c).After-count_kept) in
+    record { d_bound = all.0; fact = all.1.0; t = all.1.1 }
 
 pub overflow_add-p-in-loop-p : goal.overflow_add-p-in-loop-p
 overflow_add-p-in-loop-p c =
@@ -136,20 +143,25 @@ loop-p-preserved c =
     let v = w.result in
     let m = w.new.work in
     let e : suc d ≡ a.state.n - (c.loop-p.p + 1) = omega (trial_sizes, c.loop-p-test.true) in
-    let t = trial-next a.state a.except a.values.now a.care.now a.counts.now (found (goal.at.loop-p-preserved c).At-loop-p) c.requires.t (found-big (goal.at.loop-p-preserved c).At-loop-p)
-    d c.loop-p.p k.from k.entries k.above c.loop-p.work c.loop-p.counts (down (goal.at.loop-p-preserved c).At-loop-p (suc (suc d)) (more (goal.at.loop-p-preserved c).After-count_kept).1)
+    let t = trial-next a.state a.except a.values.now a.care.now a.counts.now
+    (found (goal.at.loop-p-preserved c).At-loop-p) c.requires.t (found-big (goal.at.loop-p-preserved c).At-loop-p)
+    d c.loop-p.p k.from k.entries k.above c.loop-p.work c.loop-p.counts
+    (down (goal.at.loop-p-preserved c).At-loop-p (suc (suc d)) (more (goal.at.loop-p-preserved c).After-count_kept).1)
     q.new.work q.new.counts q.ensures.kept q.ensures.behind
     q.auto.work q.auto.counts (tried (goal.at.loop-p-preserved c).After-count_kept)
     v.from v.entries v.above m w.ensures.from w.ensures.entries w.ensures.above w.ensures.parts
     w.ensures.behind w.auto.work in (
       omega (trial_sizes, c.loop-p-test.true),
-      subst (λ (d : ℕ). Trial a.state a.except a.values.now a.care.now a.counts.now (found (goal.at.loop-p-preserved c).At-loop-p) d (c.loop-p.p + 1)
+      subst (λ (d : ℕ). Trial a.state a.except a.values.now a.care.now a.counts.now
+          (found (goal.at.loop-p-preserved c).At-loop-p) d (c.loop-p.p + 1)
           v.from v.entries v.above m q.new.counts) e t,
     )
 
 pub count_kept-requires-2 : goal.count_kept-requires-2
 count_kept-requires-2 c =
-    let all = asks (goal.at.count_kept-requires-2 c).At-loop-p 1 (omega (trial_sizes, c.loop-p-test.false, c.loop-p.invariant.0)) (omega trial_sizes) in record { d_bound = all.0; region_size_bound = all.1.0; t = all.1.1 }
+    let all = asks (goal.at.count_kept-requires-2 c).At-loop-p 1
+    (omega (trial_sizes, c.loop-p-test.false, c.loop-p.invariant.0)) (omega trial_sizes) in
+    record { d_bound = all.0; region_size_bound = all.1.0; t = all.1.1 }
 
 pub shape_of-counts : goal.shape_of-counts
 shape_of-counts c =
@@ -168,8 +180,10 @@ returns c =
     let k = c.loop-p.kept in
     let left : a.state.n - c.loop-p.p ≡ 1 = omega (trial_sizes, c.loop-p-test.false, c.loop-p.invariant.0) in
     let last : c.loop-p.p + 1 ≡ a.state.n = omega (trial_sizes, c.loop-p-test.false, c.loop-p.invariant.0) in record {
-      counts = trial-counted a.state a.except a.values.now a.care.now a.counts.now (found (goal.at.returns c).At-loop-p) c.requires.t (found-big (goal.at.returns c).At-loop-p)
-          1 c.loop-p.p k.from k.entries k.above c.loop-p.work c.loop-p.counts (omega trial_sizes) (down (goal.at.returns c).At-loop-p 1 left)
+      counts = trial-counted a.state a.except a.values.now a.care.now a.counts.now (found (goal.at.returns c).At-loop-p)
+          c.requires.t (found-big (goal.at.returns c).At-loop-p)
+          1 c.loop-p.p k.from k.entries k.above c.loop-p.work c.loop-p.counts (omega trial_sizes)
+          (down (goal.at.returns c).At-loop-p 1 left)
           r.new.counts r.ensures.counts
           ∙ ap (tried_counts a.state a.except a.values.now a.care.now a.counts.now) last;
       behind = r.ensures.behind ∙ c.loop-p.invariant.1.behind ∙ c.first_kept-entries.ensures.behind;

@@ -6,7 +6,8 @@ use Rattle.fill.proofs.lowering.try_held.Given as goal
 
 abbrev pub invariant-loop-p : goal.invariant-loop-p
 invariant-loop-p l = (l.p + 1 ≤ l.state.n)
-    × Trial l.state l.except l.values l.care l.initial.counts l.initial.work (l.state.n - l.p) l.p l.kept.from l.kept.entries l.kept.above l.work l.counts
+    × Trial l.state l.except l.values l.care l.initial.counts l.initial.work (l.state.n - l.p) l.p l.kept.from
+    l.kept.entries l.kept.above l.work l.counts
 
 abbrev pub decreases-loop-p : goal.decreases-loop-p
 decreases-loop-p l = l.state.n - l.p

@@ -59,7 +59,9 @@ returns c =
     let a = c.args in
     let m = a.work.now in record {
       entries = c.link_part.ensures.entries
-          ∙ ap (λ (y : List ℕ). length (level_parts (width a.n) (parts_at a.n a.k 0 m) (y ∷ [])).parts) (output (goal.at.returns c).After-width_of-w);
+          ∙ ap (λ (y : List ℕ). length (level_parts (width a.n) (parts_at a.n a.k 0 m) (y ∷ [])).parts)
+          (output (goal.at.returns c).After-width_of-w);
       work = c.link_part.ensures.work
-          ∙ ap (λ (y : List ℕ). written (level_parts (width a.n) (parts_at a.n a.k 0 m) (y ∷ [])) 0 (8192 + 2 * a.j) m) (output (goal.at.returns c).After-width_of-w);
+          ∙ ap (λ (y : List ℕ). written (level_parts (width a.n) (parts_at a.n a.k 0 m) (y ∷ [])) 0 (8192 + 2 * a.j) m)
+          (output (goal.at.returns c).After-width_of-w);
     }

@@ -52,7 +52,11 @@ good c = let g = c.good_cells in sym g.ensures ∙ not-false g.result c.if-not-g
 pub overflow_shl-n : goal.overflow_shl-n
 overflow_shl-n c =
     let a = c.args in
-    omega (arith, inputs-few a.state a.roots.now a.cells.now c.if-roots-lt-ROOTS.false (held (goal.at.overflow_shl-n c).Else-not-holds_network))
+    omega (
+      arith,
+      inputs-few a.state a.roots.now a.cells.now c.if-roots-lt-ROOTS.false
+          (held (goal.at.overflow_shl-n c).Else-not-holds_network),
+    )
 
 pub returns-then-n-row : goal.returns-then-n-row
 returns-then-n-row c =
@@ -60,27 +64,37 @@ returns-then-n-row c =
     let long = c.if-roots-lt-ROOTS.false in
     sym
     (answer-no-row a.state a.row a.roots.now a.cells.now long (held (goal.at.returns-then-n-row c).Else-not-holds_network)
-    (omega (arith, c.if-n-row.true, shifted-rows a.state a.roots.now a.cells.now long (held (goal.at.returns-then-n-row c).Else-not-holds_network))))
+    (omega (
+      arith,
+      c.if-n-row.true,
+      shifted-rows a.state a.roots.now a.cells.now long (held (goal.at.returns-then-n-row c).Else-not-holds_network),
+    )))
 
 pub returns-then-not-good_cells : goal.returns-then-not-good_cells
 returns-then-not-good_cells c =
     let g = c.good_cells in
     let a = c.args in
     sym
-    (answer-bad-cells a.state a.row a.roots.now a.cells.now c.if-roots-lt-ROOTS.false (held (goal.at.returns-then-not-good_cells c).Else-not-holds_network) (known (goal.at.returns-then-not-good_cells c).Else-n-row)
+    (answer-bad-cells a.state a.row a.roots.now a.cells.now c.if-roots-lt-ROOTS.false
+    (held (goal.at.returns-then-not-good_cells c).Else-not-holds_network)
+    (known (goal.at.returns-then-not-good_cells c).Else-n-row)
     (sym g.ensures ∙ not-true g.result c.if-not-good_cells.true-raw))
 
 pub outputs-requires : goal.outputs-requires
 outputs-requires c =
     let a = c.args in
     let long = c.if-roots-lt-ROOTS.false in (
-      followable a.state a.roots.now a.cells.now long (held (goal.at.outputs-requires c).Else-not-holds_network) (good (goal.at.outputs-requires c).Else-not-good_cells),
-      rooted a.state a.roots.now a.cells.now long (held (goal.at.outputs-requires c).Else-not-holds_network) (good (goal.at.outputs-requires c).Else-not-good_cells),
+      followable a.state a.roots.now a.cells.now long (held (goal.at.outputs-requires c).Else-not-holds_network)
+          (good (goal.at.outputs-requires c).Else-not-good_cells),
+      rooted a.state a.roots.now a.cells.now long (held (goal.at.outputs-requires c).Else-not-holds_network)
+          (good (goal.at.outputs-requires c).Else-not-good_cells),
     )
 
 pub returns : goal.returns
 returns c =
     let a = c.args in
     sym
-    (answer-done a.state a.row a.roots.now a.cells.now c.if-roots-lt-ROOTS.false (held (goal.at.returns c).Else-not-holds_network) (known (goal.at.returns c).Else-n-row) (good (goal.at.returns c).Else-not-good_cells)
+    (answer-done a.state a.row a.roots.now a.cells.now c.if-roots-lt-ROOTS.false
+    (held (goal.at.returns c).Else-not-holds_network) (known (goal.at.returns c).Else-n-row)
+    (good (goal.at.returns c).Else-not-good_cells)
     c.outputs.result c.outputs.ensures)

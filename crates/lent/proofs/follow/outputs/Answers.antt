@@ -65,7 +65,12 @@ loop-j-preserved c =
     let l = c.loop-j in
     let e = found (goal.at.loop-j-preserved c).After-follow in (
       search rules,
-      (elim c.if-follow.branch [ then-follow w ↦ w.total-is ∙ bit_added f l.j l.total l.invariant.1 (search rules) 1 (sym (ap digit (e ∙ w.if-follow.true))) | else-follow w ↦ w.total-is ∙ zero-omitted f l.j l.total l.invariant.1 (e ∙ w.if-follow.false) ]),
+      (elim c.if-follow.branch [
+        | then-follow w ↦ w.total-is
+            ∙ bit_added f l.j l.total l.invariant.1 (search rules) 1 (sym (ap digit (e ∙ w.if-follow.true)))
+        | else-follow w ↦
+            w.total-is ∙ zero-omitted f l.j l.total l.invariant.1 (e ∙ w.if-follow.false)
+      ]),
     )
 
 pub returns : goal.returns

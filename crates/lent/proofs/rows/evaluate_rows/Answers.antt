@@ -63,43 +63,65 @@ good c = let g = c.good_cells in sym g.ensures ∙ not-false g.result c.if-not-g
 
 pub returns-then-roots-lt-ROOTS : goal.returns-then-roots-lt-ROOTS
 returns-then-roots-lt-ROOTS c =
-    let a = c.args in let all = rows_short a.state a.rows.now a.answers.now a.roots.now a.cells.now (search rules) in record { answer = all.0; answers = all.1.0; alone = all.1.1 }
+    let a = c.args in
+    let all = rows_short a.state a.rows.now a.answers.now a.roots.now a.cells.now (search rules) in
+    record { answer = all.0; answers = all.1.0; alone = all.1.1 }
 
 pub returns-then-answers-rows : goal.returns-then-answers-rows
 returns-then-answers-rows c =
-    let a = c.args in let all = rows-few-answers a.state a.rows.now a.answers.now a.roots.now a.cells.now c.if-roots-lt-ROOTS.false c.if-answers-rows.true in record { answer = all.0; answers = all.1.0; alone = all.1.1 }
+    let a = c.args in
+    let all = rows-few-answers a.state a.rows.now a.answers.now a.roots.now a.cells.now c.if-roots-lt-ROOTS.false
+    c.if-answers-rows.true in
+    record { answer = all.0; answers = all.1.0; alone = all.1.1 }
 
 pub returns-then-not-holds_network : goal.returns-then-not-holds_network
 returns-then-not-holds_network c =
     let a = c.args in
-    let h = c.holds_network in let all = rows-no-network a.state a.rows.now a.answers.now a.roots.now a.cells.now c.if-roots-lt-ROOTS.false c.if-answers-rows.false
+    let h = c.holds_network in
+    let all = rows-no-network a.state a.rows.now a.answers.now a.roots.now a.cells.now c.if-roots-lt-ROOTS.false
+    c.if-answers-rows.false
     (sym h.ensures ∙ not-true h.result c.if-not-holds_network.true-raw) in record { answer = all.0; answers = all.1.0; alone = all.1.1 }
 
 pub overflow_shl-n : goal.overflow_shl-n
 overflow_shl-n c =
     let a = c.args in
-    omega (arith, inputs-few a.state a.roots.now a.cells.now c.if-roots-lt-ROOTS.false (held (goal.at.overflow_shl-n c).Else-not-holds_network))
+    omega (
+      arith,
+      inputs-few a.state a.roots.now a.cells.now c.if-roots-lt-ROOTS.false
+          (held (goal.at.overflow_shl-n c).Else-not-holds_network),
+    )
 
 pub returns-then-not-all_below : goal.returns-then-not-all_below
 returns-then-not-all_below c =
     let a = c.args in
-    let r = c.all_below in let all = rows-no-row a.state a.rows.now a.answers.now a.roots.now a.cells.now
+    let r = c.all_below in
+    let all = rows-no-row a.state a.rows.now a.answers.now a.roots.now a.cells.now
     c.if-roots-lt-ROOTS.false c.if-answers-rows.false (held (goal.at.returns-then-not-all_below c).Else-not-holds_network)
-    (ap (λ (k : ℕ). all (λ row. ltb row k) a.rows.now) (sym (rows_end (goal.at.returns-then-not-all_below c).Else-not-holds_network)) ∙ sym r.ensures ∙ not-true r.result c.if-not-all_below.true-raw) in record { answer = all.0; answers = all.1.0; alone = all.1.1 }
+    (ap (λ (k : ℕ). all (λ row. ltb row k) a.rows.now)
+    (sym (rows_end (goal.at.returns-then-not-all_below c).Else-not-holds_network)) ∙ sym r.ensures
+    ∙ not-true r.result c.if-not-all_below.true-raw) in
+    record { answer = all.0; answers = all.1.0; alone = all.1.1 }
 
 pub returns-then-not-good_cells : goal.returns-then-not-good_cells
 returns-then-not-good_cells c =
     let a = c.args in
-    let g = c.good_cells in let all = rows-bad-cells a.state a.rows.now a.answers.now a.roots.now a.cells.now
-    c.if-roots-lt-ROOTS.false c.if-answers-rows.false (held (goal.at.returns-then-not-good_cells c).Else-not-holds_network) (known (goal.at.returns-then-not-good_cells c).Else-not-all_below)
+    let g = c.good_cells in
+    let all = rows-bad-cells a.state a.rows.now a.answers.now a.roots.now a.cells.now
+    c.if-roots-lt-ROOTS.false c.if-answers-rows.false
+    (held (goal.at.returns-then-not-good_cells c).Else-not-holds_network)
+    (known (goal.at.returns-then-not-good_cells c).Else-not-all_below)
     (sym g.ensures ∙ not-true g.result c.if-not-good_cells.true-raw) in record { answer = all.0; answers = all.1.0; alone = all.1.1 }
 
 pub write_answers-requires : goal.write_answers-requires
 write_answers-requires c =
     let a = c.args in record {
       followable = (
-        followable a.state a.roots.now a.cells.now c.if-roots-lt-ROOTS.false (held (goal.at.write_answers-requires c).Else-not-holds_network) (good (goal.at.write_answers-requires c).Else-not-good_cells),
-        rooted a.state a.roots.now a.cells.now c.if-roots-lt-ROOTS.false (held (goal.at.write_answers-requires c).Else-not-holds_network) (good (goal.at.write_answers-requires c).Else-not-good_cells),
+        followable a.state a.roots.now a.cells.now c.if-roots-lt-ROOTS.false
+            (held (goal.at.write_answers-requires c).Else-not-holds_network)
+            (good (goal.at.write_answers-requires c).Else-not-good_cells),
+        rooted a.state a.roots.now a.cells.now c.if-roots-lt-ROOTS.false
+            (held (goal.at.write_answers-requires c).Else-not-holds_network)
+            (good (goal.at.write_answers-requires c).Else-not-good_cells),
       );
       rows_in_bounds = c.if-answers-rows.false;
     }
@@ -107,6 +129,8 @@ write_answers-requires c =
 pub returns : goal.returns
 returns c =
     let x = c.write_answers in
-    let a = c.args in let all = rows-done a.state a.rows.now a.answers.now a.roots.now a.cells.now
-    c.if-roots-lt-ROOTS.false c.if-answers-rows.false (held (goal.at.returns c).Else-not-holds_network) (known (goal.at.returns c).Else-not-all_below)
+    let a = c.args in
+    let all = rows-done a.state a.rows.now a.answers.now a.roots.now a.cells.now
+    c.if-roots-lt-ROOTS.false c.if-answers-rows.false (held (goal.at.returns c).Else-not-holds_network)
+    (known (goal.at.returns c).Else-not-all_below)
     (good (goal.at.returns c).Else-not-good_cells) _ x.ensures in record { answer = all.0; answers = all.1.0; alone = all.1.1 }

@@ -46,7 +46,8 @@ bounds-answers-i c =
       c.loop-i-test.true,
       c.requires.rows_in_bounds,
       ap length l.invariant.1,
-      length_over (given (goal.at.bounds-answers-i c).After-outputs) l.i a.answers.now (omega (arith, l.invariant.0, c.requires.rows_in_bounds)),
+      length_over (given (goal.at.bounds-answers-i c).After-outputs) l.i a.answers.now
+          (omega (arith, l.invariant.0, c.requires.rows_in_bounds)),
     )
 
 pub loop-i-preserved : goal.loop-i-preserved

@@ -34,7 +34,12 @@ loop-b-preserved c =
     let a = c.args in
     let f : ℕ → Bool = λ k. table_bit (λ v. v.value) (lent_table a.state a.roots.now a.cells.now) (8 * a.i + k) in (
       omega arith,
-      (elim c.if-value_bit.branch [ then-value_bit w ↦ w.byte-is ∙ bit-set l.b f l.byte l.invariant.1 (omega arith) (sym v.ensures ∙ w.if-value_bit.true) | else-value_bit w ↦ w.byte-is ∙ bit-clear l.b f l.byte l.invariant.1 (sym v.ensures ∙ w.if-value_bit.false) ]),
+      (elim c.if-value_bit.branch [
+        | then-value_bit w ↦ w.byte-is
+            ∙ bit-set l.b f l.byte l.invariant.1 (omega arith) (sym v.ensures ∙ w.if-value_bit.true)
+        | else-value_bit w ↦
+            w.byte-is ∙ bit-clear l.b f l.byte l.invariant.1 (sym v.ensures ∙ w.if-value_bit.false)
+      ]),
     )
 
 pub returns : goal.returns

@@ -45,7 +45,11 @@ bounds-values-i c =
 pub ones_byte-requires : goal.ones_byte-requires
 ones_byte-requires c =
     let s = c.args.state in (
-      omega (arith, bits (goal.at.ones_byte-requires c).In-loop-i, stream-small s.n s.m c.requires.evaluable.followable.levelled.few c.requires.evaluable.rooted.few),
+      omega (
+        arith,
+        bits (goal.at.ones_byte-requires c).In-loop-i,
+        stream-small s.n s.m c.requires.evaluable.followable.levelled.few c.requires.evaluable.rooted.few,
+      ),
       omega (arith, plane-size),
     )
 

@@ -48,8 +48,12 @@ pub returns-then-link-gt0 : goal.returns-then-link-gt0
 returns-then-link-gt0 c =
     let a = c.args in
     let l = a.region.now in
-    let n = a.w + a.w in let all = shown-merged a.w a.f.now l a.k c.first_words-link.result c.first_words-link.ensures c.if-link-gt0.true _
-    (merged-back (eqb (c.first_words-link.result % 2) 1) a.w (entry (goal.at.returns-then-link-gt0 c).After-first_words-link) (entry (goal.at.returns-then-link-gt0 c).After-first_words-link * n + n - entry (goal.at.returns-then-link-gt0 c).After-first_words-link * n) a.f.now l
+    let n = a.w + a.w in
+    let all = shown-merged a.w a.f.now l a.k c.first_words-link.result c.first_words-link.ensures c.if-link-gt0.true _
+    (merged-back (eqb (c.first_words-link.result % 2) 1) a.w
+    (entry (goal.at.returns-then-link-gt0 c).After-first_words-link)
+    (entry (goal.at.returns-then-link-gt0 c).After-first_words-link * n + n - entry
+    (goal.at.returns-then-link-gt0 c).After-first_words-link * n) a.f.now l
     c.merge.new.g (omega arith) c.merge.ensures) in record { entries = all.0; link = all.1.0; region = all.1.1 }
 
 small : (c : After-slice_known-2-1) → 2 * (c.args.k + 1) < 2 ^ 64
@@ -72,7 +76,9 @@ overflow_mul-result c =
 pub returns : goal.returns
 returns c =
     let a = c.args in
-    let n = shown-new a.w a.f.now a.region.now a.k c.first_words-link.result c.first_words-link.ensures c.if-link-gt0.false c.requires.f_len in record {
+    let n = shown-new a.w a.f.now a.region.now a.k c.first_words-link.result c.first_words-link.ensures
+    c.if-link-gt0.false c.requires.f_len in
+    record {
       entries = n.0;
       link = n.1.0;
       region = c.copy_to.ensures ∙ n.1.1;

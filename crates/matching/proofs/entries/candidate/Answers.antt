@@ -33,17 +33,23 @@ candidate_word-requires c =
 pub returns-then-w-le-WORD : goal.returns-then-w-le-WORD
 returns-then-w-le-WORD c =
     let a = c.args in
-    let r = c.candidate_word in let all = subst (λ (y : List ℕ). Shown (a.w + a.w) a.region.now (candidate_part a.w y (chunks (a.w + a.w) a.k a.region.now))
-    r.result.entries r.result.link r.new.region) (words (goal.at.returns-then-w-le-WORD c).After-part_word-care).0 (r.ensures.entries, (r.ensures.link, r.ensures.region)) in record { entries = all.0; link = all.1.0; region = all.1.1 }
+    let r = c.candidate_word in
+    let all = subst (λ (y : List ℕ). Shown (a.w + a.w) a.region.now
+    (candidate_part a.w y (chunks (a.w + a.w) a.k a.region.now))
+    r.result.entries r.result.link r.new.region) (words (goal.at.returns-then-w-le-WORD c).After-part_word-care).0
+    (r.ensures.entries, (r.ensures.link, r.ensures.region)) in
+    record { entries = all.0; link = all.1.0; region = all.1.1 }
 
 pub returns-then-always : goal.returns-then-always
 returns-then-always c =
-    let a = c.args in let all = shown-always a.w a.f.now a.region.now a.k false (λ e. absurd (false≢true e))
+    let a = c.args in
+    let all = shown-always a.w a.f.now a.region.now a.k false (λ e. absurd (false≢true e))
     (sym c.always.ensures ∙ c.if-always.true) in record { entries = all.0; link = all.1.0; region = all.1.1 }
 
 pub returns-then-always-2 : goal.returns-then-always-2
 returns-then-always-2 c =
-    let a = c.args in let all = shown-always a.w a.f.now a.region.now a.k true (λ _. sym c.always.ensures ∙ c.if-always.false)
+    let a = c.args in
+    let all = shown-always a.w a.f.now a.region.now a.k true (λ _. sym c.always.ensures ∙ c.if-always.false)
     (sym c.always-2.ensures ∙ c.if-always-2.true) in record { entries = all.0; link = all.1.0; region = all.1.1 }
 
 pub along-requires : goal.along-requires
@@ -58,5 +64,8 @@ along-requires c =
 pub returns : goal.returns
 returns c =
     let a = c.args in
-    let r = c.along in let all = shown-along a.w a.f.now a.region.now a.k r.result.entries r.result.link r.new.region
-    (sym c.always.ensures ∙ c.if-always.false) (sym c.always-2.ensures ∙ c.if-always-2.false) (r.ensures.entries, (r.ensures.link, r.ensures.region)) in record { entries = all.0; link = all.1.0; region = all.1.1 }
+    let r = c.along in
+    let all = shown-along a.w a.f.now a.region.now a.k r.result.entries r.result.link r.new.region
+    (sym c.always.ensures ∙ c.if-always.false) (sym c.always-2.ensures ∙ c.if-always-2.false)
+    (r.ensures.entries, (r.ensures.link, r.ensures.region)) in
+    record { entries = all.0; link = all.1.0; region = all.1.1 }

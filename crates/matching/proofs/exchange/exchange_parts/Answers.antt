@@ -77,7 +77,16 @@ pub exchange_plane-requires : goal.exchange_plane-requires
 exchange_plane-requires c =
     let m = c.loop-i.work in record {
       d_bound = c.requires.d_bound;
-      plane_len = length-take-le (lent (goal.at.exchange_plane-requires c).In-loop-i) (drop (offset (goal.at.exchange_plane-requires c).In-loop-i) m) (omega (arith, lent_is (goal.at.exchange_plane-requires c).In-loop-i, wide (goal.at.exchange_plane-requires c).In-loop-i, within (goal.at.exchange_plane-requires c).In-loop-i, length-drop (offset (goal.at.exchange_plane-requires c).In-loop-i) m)) ∙ lent_is (goal.at.exchange_plane-requires c).In-loop-i;
+      plane_len = length-take-le (lent (goal.at.exchange_plane-requires c).In-loop-i)
+          (drop (offset (goal.at.exchange_plane-requires c).In-loop-i) m)
+          (omega (
+            arith,
+            lent_is (goal.at.exchange_plane-requires c).In-loop-i,
+            wide (goal.at.exchange_plane-requires c).In-loop-i,
+            within (goal.at.exchange_plane-requires c).In-loop-i,
+            length-drop (offset (goal.at.exchange_plane-requires c).In-loop-i) m,
+          ))
+          ∙ lent_is (goal.at.exchange_plane-requires c).In-loop-i;
     }
 
 pub overflow_add-i : goal.overflow_add-i
@@ -89,8 +98,10 @@ loop-i-preserved c =
     let l = c.loop-i in
     let a = c.args in
     let r = c.exchange_plane in
-    let e = exchanged-more a.d a.from a.work.now l.i (offset (goal.at.loop-i-preserved c).In-loop-i) (lent (goal.at.loop-i-preserved c).In-loop-i) l.work r.new.plane
-    (fits (goal.at.loop-i-preserved c).In-loop-i) (at-plane (goal.at.loop-i-preserved c).In-loop-i) (lent_is (goal.at.loop-i-preserved c).In-loop-i) l.invariant.1 r.ensures in
+    let e = exchanged-more a.d a.from a.work.now l.i (offset (goal.at.loop-i-preserved c).In-loop-i)
+    (lent (goal.at.loop-i-preserved c).In-loop-i) l.work r.new.plane
+    (fits (goal.at.loop-i-preserved c).In-loop-i) (at-plane (goal.at.loop-i-preserved c).In-loop-i)
+    (lent_is (goal.at.loop-i-preserved c).In-loop-i) l.invariant.1 r.ensures in
     (omega arith, e, ap length e ∙ length-exchanged-to a.d a.from a.work.now (l.i + 1) (fits (goal.at.loop-i-preserved c).In-loop-i))
 
 pub returns : goal.returns

@@ -53,4 +53,5 @@ exchange_blocks-requires c =
 pub returns : goal.returns
 returns c =
     c.exchange_blocks.ensures
-    ∙ blocks-exchanged c.args.d c.width_of-q.result c.args.plane.now (wide (goal.at.returns c).After-width_of-q).0 (wide (goal.at.returns c).After-width_of-q).1 (wide (goal.at.returns c).After-width_of-q).2
+    ∙ blocks-exchanged c.args.d c.width_of-q.result c.args.plane.now (wide (goal.at.returns c).After-width_of-q).0
+    (wide (goal.at.returns c).After-width_of-q).1 (wide (goal.at.returns c).After-width_of-q).2

@@ -77,12 +77,20 @@ pub returns-then-size-s : goal.returns-then-size-s
 unfolding candidate_fits
 returns-then-size-s c =
     let a = c.args in
-    rw (few (goal.at.returns-then-size-s c).Else-d-gt-VARIABLES, ne_eqb a.size (width a.d + width a.d) (λ e. c.if-size-s.true (e ∙ sym (whole (goal.at.returns-then-size-s c).After-width_of-w))))
+    rw (
+      few (goal.at.returns-then-size-s c).Else-d-gt-VARIABLES,
+      ne_eqb a.size (width a.d + width a.d)
+          (λ e. c.if-size-s.true (e ∙ sym (whole (goal.at.returns-then-size-s c).After-width_of-w))),
+    )
 
 pub returns-then-not-blocks_fit : goal.returns-then-not-blocks_fit
 unfolding candidate_fits
 returns-then-not-blocks_fit c =
-    rw (few (goal.at.returns-then-not-blocks_fit c).Else-d-gt-VARIABLES, sized (goal.at.returns-then-not-blocks_fit c).Else-size-s, refused (place (goal.at.returns-then-not-blocks_fit c).After-blocks_fit) c.if-not-blocks_fit.true-raw)
+    rw (
+      few (goal.at.returns-then-not-blocks_fit c).Else-d-gt-VARIABLES,
+      sized (goal.at.returns-then-not-blocks_fit c).Else-size-s,
+      refused (place (goal.at.returns-then-not-blocks_fit c).After-blocks_fit) c.if-not-blocks_fit.true-raw,
+    )
 
 pub blocks_fit-requires-2 : goal.blocks_fit-requires-2
 blocks_fit-requires-2 c =
@@ -91,10 +99,20 @@ blocks_fit-requires-2 c =
 pub returns-then-not-blocks_fit-2 : goal.returns-then-not-blocks_fit-2
 unfolding candidate_fits
 returns-then-not-blocks_fit-2 c =
-    rw (few (goal.at.returns-then-not-blocks_fit-2 c).Else-d-gt-VARIABLES, sized (goal.at.returns-then-not-blocks_fit-2 c).Else-size-s, passed (place (goal.at.returns-then-not-blocks_fit-2 c).After-blocks_fit) c.if-not-blocks_fit.false-raw, refused (room (goal.at.returns-then-not-blocks_fit-2 c).After-blocks_fit-2) c.if-not-blocks_fit-2.true-raw)
+    rw (
+      few (goal.at.returns-then-not-blocks_fit-2 c).Else-d-gt-VARIABLES,
+      sized (goal.at.returns-then-not-blocks_fit-2 c).Else-size-s,
+      passed (place (goal.at.returns-then-not-blocks_fit-2 c).After-blocks_fit) c.if-not-blocks_fit.false-raw,
+      refused (room (goal.at.returns-then-not-blocks_fit-2 c).After-blocks_fit-2) c.if-not-blocks_fit-2.true-raw,
+    )
 
 pub returns : goal.returns
 unfolding candidate_fits
 returns c =
-    rw (few (goal.at.returns c).Else-d-gt-VARIABLES, sized (goal.at.returns c).Else-size-s, passed (place (goal.at.returns c).After-blocks_fit) c.if-not-blocks_fit.false-raw, passed (room (goal.at.returns c).After-blocks_fit-2) c.if-not-blocks_fit-2.false-raw)
+    rw (
+      few (goal.at.returns c).Else-d-gt-VARIABLES,
+      sized (goal.at.returns c).Else-size-s,
+      passed (place (goal.at.returns c).After-blocks_fit) c.if-not-blocks_fit.false-raw,
+      passed (room (goal.at.returns c).After-blocks_fit-2) c.if-not-blocks_fit-2.false-raw,
+    )
     c.blocks_fit-3.ensures

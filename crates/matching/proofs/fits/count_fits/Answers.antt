@@ -45,7 +45,11 @@ overflow_add-v c =
 
 pub overflow_mul-count : goal.overflow_mul-count
 overflow_mul-count c =
-    omega (arith, small c.args.count (c.width_of-v.result + c.width_of-v.result) c.if-count-gt-REGION.false (omega (arith, most (goal.at.overflow_mul-count c).After-width_of-v)))
+    omega (
+      arith,
+      small c.args.count (c.width_of-v.result + c.width_of-v.result) c.if-count-gt-REGION.false
+          (omega (arith, most (goal.at.overflow_mul-count c).After-width_of-v)),
+    )
 
 pub returns-then-count-v-gt-REGION : goal.returns-then-count-v-gt-REGION
 unfolding count_fits
@@ -67,7 +71,11 @@ overflow_mul-result c =
 
 pub overflow_mul-result-2 : goal.overflow_mul-result-2
 overflow_mul-result-2 c =
-    omega (arith, small c.args.count (4 * c.width_of-w.result) c.if-count-gt-REGION.false (omega (arith, few (goal.at.overflow_mul-result-2 c).After-width_of-w)))
+    omega (
+      arith,
+      small c.args.count (4 * c.width_of-w.result) c.if-count-gt-REGION.false
+          (omega (arith, few (goal.at.overflow_mul-result-2 c).After-width_of-w)),
+    )
 
 pub returns : goal.returns
 unfolding count_fits
@@ -75,4 +83,5 @@ returns c =
     let v = width (suc c.args.d) in
     let e = wide (goal.at.returns c).After-width_of-v in
     rw (le-leb (c.args.count * (v + v)) region_size (rw e at c.if-count-v-gt-REGION.false))
-    (ap (λ (w : ℕ). leb (c.args.count * (4 * w)) region_size) (narrow (goal.at.returns c).After-width_of-w) ∙ halves-counted c.args.count (width c.args.d) region_size)
+    (ap (λ (w : ℕ). leb (c.args.count * (4 * w)) region_size) (narrow (goal.at.returns c).After-width_of-w)
+    ∙ halves-counted c.args.count (width c.args.d) region_size)

@@ -33,11 +33,19 @@ returns-then-not-regions_fit c =
 pub returns-then-not-count_fits : goal.returns-then-not-count_fits
 unfolding level_fits
 returns-then-not-count_fits c =
-    rw (few (goal.at.returns-then-not-count_fits c).Else-d-ge-VARIABLES, placed (goal.at.returns-then-not-count_fits c).Else-not-regions_fit, refused c.count_fits.ensures c.if-not-count_fits.true-raw)
+    rw (
+      few (goal.at.returns-then-not-count_fits c).Else-d-ge-VARIABLES,
+      placed (goal.at.returns-then-not-count_fits c).Else-not-regions_fit,
+      refused c.count_fits.ensures c.if-not-count_fits.true-raw,
+    )
 
 pub returns : goal.returns
 unfolding level_fits
 returns c =
     let a = c.args in
-    rw (few (goal.at.returns c).Else-d-ge-VARIABLES, placed (goal.at.returns c).Else-not-regions_fit, counted (goal.at.returns c).Else-not-count_fits)
+    rw (
+      few (goal.at.returns c).Else-d-ge-VARIABLES,
+      placed (goal.at.returns c).Else-not-regions_fit,
+      counted (goal.at.returns c).Else-not-count_fits,
+    )
     (c.blocks_fit.ensures ∙ links-counted a.links a.count a.len)

@@ -26,7 +26,12 @@ wide c =
 
 pub overflow_add-w : goal.overflow_add-w
 overflow_add-w c =
-    omega (arith, wide (goal.at.overflow_add-w c).After-width_of-w, part-size, width_room (suc (suc c.args.d)) (omega (arith, c.if-d.false)))
+    omega (
+      arith,
+      wide (goal.at.overflow_add-w c).After-width_of-w,
+      part-size,
+      width_room (suc (suc c.args.d)) (omega (arith, c.if-d.false)),
+    )
 
 pub blocks_fit-requires : goal.blocks_fit-requires
 blocks_fit-requires c =

@@ -97,14 +97,25 @@ half-long w b =
 pub link_taken-requires : goal.link_taken-requires
 link_taken-requires c =
     record {
-      d_le_most_variables = (le_of_lt c.requires.le_d.1, ap length (low (goal.at.link_taken-requires c).After-width_of-w) ∙ half-long (goal.at.link_taken-requires c).After-width_of-w false, ap length (high (goal.at.link_taken-requires c).After-width_of-w) ∙ half-long (goal.at.link_taken-requires c).After-width_of-w true);
+      d_le_most_variables = (
+        le_of_lt c.requires.le_d.1,
+        ap length (low (goal.at.link_taken-requires c).After-width_of-w)
+            ∙ half-long (goal.at.link_taken-requires c).After-width_of-w false,
+        ap length (high (goal.at.link_taken-requires c).After-width_of-w)
+            ∙ half-long (goal.at.link_taken-requires c).After-width_of-w true,
+      );
       region_size_bound = c.requires.region_size_bound;
       l_in_bounds = c.requires.l_in_bounds;
     }
 
 pub returns : goal.returns
 returns c =
-    let a = c.args in let all = linked-as a.d a.to a.k a.l c.link_taken.result a.work.now c.link_taken.new.work _ _ _ _
-    (offered-is false a.d (part_of (goal.at.returns c).After-width_of-w) _ _ _ (high (goal.at.returns c).After-width_of-w) (low (goal.at.returns c).After-width_of-w) (low (goal.at.returns c).After-width_of-w))
-    (offered-is true a.d (part_of (goal.at.returns c).After-width_of-w) _ _ _ (high (goal.at.returns c).After-width_of-w) (low (goal.at.returns c).After-width_of-w) (high (goal.at.returns c).After-width_of-w))
+    let a = c.args in
+    let all = linked-as a.d a.to a.k a.l c.link_taken.result a.work.now c.link_taken.new.work _ _ _ _
+    (offered-is false a.d (part_of (goal.at.returns c).After-width_of-w) _ _ _
+    (high (goal.at.returns c).After-width_of-w) (low (goal.at.returns c).After-width_of-w)
+    (low (goal.at.returns c).After-width_of-w))
+    (offered-is true a.d (part_of (goal.at.returns c).After-width_of-w) _ _ _
+    (high (goal.at.returns c).After-width_of-w) (low (goal.at.returns c).After-width_of-w)
+    (high (goal.at.returns c).After-width_of-w))
     (c.link_taken.ensures.entries, c.link_taken.ensures.work) in record { entries = all.0; work = all.1 }

@@ -17,7 +17,10 @@ wide-2 w = w.width_of-w.ensures ∙ width-met w.args.d w.requires.d_le_most_vari
 
 pub unite-requires : goal.unite-requires
 unite-requires c =
-    record { f_len = omega (arith, wide (goal.at.unite-requires c).After-width_of-w, c.requires.d_le_most_variables); g_len = omega (arith, wide (goal.at.unite-requires c).After-width_of-w, c.requires.d_le_most_variables) }
+    record {
+      f_len = omega (arith, wide (goal.at.unite-requires c).After-width_of-w, c.requires.d_le_most_variables);
+      g_len = omega (arith, wide (goal.at.unite-requires c).After-width_of-w, c.requires.d_le_most_variables);
+    }
 
 -- the candidates, by whether the halves agree
 candidates : (b : Bool) (u : After-unite) → u.unite.result ≡ b
@@ -32,11 +35,13 @@ candidates b u t =
 pub returns-then-unite : goal.returns-then-unite
 returns-then-unite c =
     let a = c.args in
-    let p = candidates true (goal.at.returns-then-unite c).After-unite c.if-unite.true in let all = linked-as a.d a.to a.k a.l c.link_twice.result a.work.now c.link_twice.new.work _ _ _ _
+    let p = candidates true (goal.at.returns-then-unite c).After-unite c.if-unite.true in
+    let all = linked-as a.d a.to a.k a.l c.link_twice.result a.work.now c.link_twice.new.work _ _ _ _
     p.0 p.1 (c.link_twice.ensures.entries, c.link_twice.ensures.work) in record { entries = all.0; work = all.1 }
 
 pub returns : goal.returns
 returns c =
     let a = c.args in
-    let p = candidates false (goal.at.returns c).After-unite c.if-unite.false in let all = linked-as a.d a.to a.k a.l c.link_both.result a.work.now c.link_both.new.work _ _ _ _
+    let p = candidates false (goal.at.returns c).After-unite c.if-unite.false in
+    let all = linked-as a.d a.to a.k a.l c.link_both.result a.work.now c.link_both.new.work _ _ _ _
     p.0 p.1 (c.link_both.ensures.entries, c.link_both.ensures.work) in record { entries = all.0; work = all.1 }

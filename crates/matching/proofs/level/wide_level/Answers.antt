@@ -52,8 +52,11 @@ pub link_halves-k-requires : goal.link_halves-k-requires
 link_halves-k-requires c =
     let a = c.args in
     let t = turn-asks a.d a.from a.count a.to a.links a.work.now c.requires.fact c.requires.region_size_bound c.requires.d_bound
-    c.loop-e.e (offset (goal.at.link_halves-k-requires c).In-loop-e) c.loop-e-test.true (at_part (goal.at.link_halves-k-requires c).In-loop-e)
-    c.loop-e.k (a.links + 4 * c.loop-e.e) c.loop-e.work c.requires.word_size_in_bounds refl c.loop-e.invariant.1 c.loop-e.invariant.2 in record {
+    c.loop-e.e (offset (goal.at.link_halves-k-requires c).In-loop-e) c.loop-e-test.true
+    (at_part (goal.at.link_halves-k-requires c).In-loop-e)
+    c.loop-e.k (a.links + 4 * c.loop-e.e) c.loop-e.work c.requires.word_size_in_bounds refl c.loop-e.invariant.1
+    c.loop-e.invariant.2 in
+    record {
       le_d = (c.requires.le_d.0, c.requires.le_d.1, t.0);
       region_size_bound = t.1.0;
       l_in_bounds = t.1.1;

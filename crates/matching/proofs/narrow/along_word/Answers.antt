@@ -52,8 +52,12 @@ returns-then-link-gt0 c =
     let a = c.args in
     let l = a.region.now in
     let n = a.w + a.w in
-    let f = part_of a.w a.f a.c in let all = shown-merged a.w f l a.k c.first_word-link.result c.first_word-link.ensures c.if-link-gt0.true _
-    (merged-back (eqb (c.first_word-link.result % 2) 1) a.w (entry (goal.at.returns-then-link-gt0 c).After-first_word-link) (entry (goal.at.returns-then-link-gt0 c).After-first_word-link * n + n - entry (goal.at.returns-then-link-gt0 c).After-first_word-link * n) f l
+    let f = part_of a.w a.f a.c in
+    let all = shown-merged a.w f l a.k c.first_word-link.result c.first_word-link.ensures c.if-link-gt0.true _
+    (merged-back (eqb (c.first_word-link.result % 2) 1) a.w
+    (entry (goal.at.returns-then-link-gt0 c).After-first_word-link)
+    (entry (goal.at.returns-then-link-gt0 c).After-first_word-link * n + n - entry
+    (goal.at.returns-then-link-gt0 c).After-first_word-link * n) f l
     c.merge_words.new.part (omega arith) c.merge_words.ensures) in record { entries = all.0; link = all.1.0; region = all.1.1 }
 
 small : (c : After-slice_known-3-1) → 2 * (c.args.k + 1) < 2 ^ 64
@@ -78,7 +82,9 @@ returns c =
     let a = c.args in
     let l = a.region.now in
     let f = part_of a.w a.f a.c in
-    let n = shown-new a.w f l a.k c.first_word-link.result c.first_word-link.ensures c.if-link-gt0.false (length-part-of a.w a.f a.c) in record {
+    let n = shown-new a.w f l a.k c.first_word-link.result c.first_word-link.ensures c.if-link-gt0.false
+    (length-part-of a.w a.f a.c) in
+    record {
       entries = n.0;
       link = n.1.0;
       region = words-stored a.w a.f a.c (a.k * (a.w + a.w)) (a.k * (a.w + a.w) + a.w) l c.put_word.new.s

@@ -36,7 +36,11 @@ in-region c =
 small : (c : In-loop-e) → 2 * (c.loop-e.e + 1) + 1 < 2 ^ 64
 small c =
     let a = c.args in
-    omega (arith, c.loop-e-test.true, twice-le a.k a.w (length a.region.now) c.requires.w_nonzero.0 (omega (arith, c.requires.word_size_in_bounds)))
+    omega (
+      arith,
+      c.loop-e-test.true,
+      twice-le a.k a.w (length a.region.now) c.requires.w_nonzero.0 (omega (arith, c.requires.word_size_in_bounds)),
+    )
 
 pub overflow_add-a : goal.overflow_add-a
 overflow_add-a c =
@@ -98,7 +102,12 @@ overflow_mul-result c =
 
 pub returns-then-differ-eq0 : goal.returns-then-differ-eq0
 returns-then-differ-eq0 c =
-    omega (arith, found false (goal.at.returns-then-differ-eq0 c).After-eight_bytes-in-loop-e (plain-first _ _ _ (agreed (goal.at.returns-then-differ-eq0 c).After-eight_bytes-in-loop-e false c.if-differ-eq0.true)))
+    omega (
+      arith,
+      found false (goal.at.returns-then-differ-eq0 c).After-eight_bytes-in-loop-e
+          (plain-first _ _ _ (agreed (goal.at.returns-then-differ-eq0 c).After-eight_bytes-in-loop-e false
+          c.if-differ-eq0.true)),
+    )
 
 pub overflow_add-result-then-differ-both : goal.overflow_add-result-then-differ-both
 overflow_add-result-then-differ-both c =
@@ -114,7 +123,13 @@ overflow_add-result-then-differ-both-2 c =
 
 pub returns-then-differ-both : goal.returns-then-differ-both
 returns-then-differ-both c =
-    omega (arith, found true (goal.at.returns-then-differ-both c).After-eight_bytes-in-loop-e (inverted-first _ _ _ (differed (goal.at.returns-then-differ-both c).After-eight_bytes-in-loop-e false c.if-differ-eq0.false) (agreed (goal.at.returns-then-differ-both c).After-eight_bytes-in-loop-e true c.if-differ-both.true)))
+    omega (
+      arith,
+      found true (goal.at.returns-then-differ-both c).After-eight_bytes-in-loop-e
+          (inverted-first _ _ _
+          (differed (goal.at.returns-then-differ-both c).After-eight_bytes-in-loop-e false c.if-differ-eq0.false)
+          (agreed (goal.at.returns-then-differ-both c).After-eight_bytes-in-loop-e true c.if-differ-both.true)),
+    )
 
 pub overflow_add-a-in-loop-e : goal.overflow_add-a-in-loop-e
 overflow_add-a-in-loop-e c =
@@ -131,7 +146,8 @@ loop-e-preserved c =
       search rules,
       omega (arith, l.invariant.1),
       passed-more a.w (part_of a.w a.f a.c) a.region.now a.k l.e c.loop-e-test.true l.invariant.2
-          (differed (goal.at.loop-e-preserved c).After-eight_bytes-in-loop-e false c.if-differ-eq0.false) (differed (goal.at.loop-e-preserved c).After-eight_bytes-in-loop-e true c.if-differ-both.false),
+          (differed (goal.at.loop-e-preserved c).After-eight_bytes-in-loop-e false c.if-differ-eq0.false)
+          (differed (goal.at.loop-e-preserved c).After-eight_bytes-in-loop-e true c.if-differ-both.false),
     )
 
 pub returns : goal.returns

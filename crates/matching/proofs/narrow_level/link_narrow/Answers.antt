@@ -92,7 +92,10 @@ left h k l f care r work m = subst (λ (w : ℕ). LinkedBy w h.args.to k l work 
 
 pub link_word-n-requires : goal.link_word-n-requires
 link_word-n-requires c =
-    let t = asks (goal.at.link_word-n-requires c).After-half_word-high_care c.args.k _ (candidates (goal.at.link_word-n-requires c).After-half_word-high_care).either-small (omega (arith, c.requires.region_size_bound.1)) in record {
+    let t = asks (goal.at.link_word-n-requires c).After-half_word-high_care c.args.k _
+    (candidates (goal.at.link_word-n-requires c).After-half_word-high_care).either-small
+    (omega (arith, c.requires.region_size_bound.1)) in
+    record {
       w_nonzero = t.0;
       word_size_in_bounds = (c.requires.l_in_bounds.1, t.1);
       l_in_bounds = omega (arith, c.requires.l_in_bounds.0);
@@ -101,18 +104,33 @@ link_word-n-requires c =
 pub returns-then-high-low-eq0 : goal.returns-then-high-low-eq0
 returns-then-high-low-eq0 c =
     let a = c.args in
-    let f = part_of (width a.d) c.merge_word-value.result (bit_or (high-care (goal.at.returns-then-high-low-eq0 c).After-half_word-high_care) (low-care (goal.at.returns-then-high-low-eq0 c).After-half_word-high_care)) in
+    let f = part_of (width a.d) c.merge_word-value.result
+    (bit_or (high-care (goal.at.returns-then-high-low-eq0 c).After-half_word-high_care)
+    (low-care (goal.at.returns-then-high-low-eq0 c).After-half_word-high_care)) in
     let linked = twice-linked a.d a.to a.k a.l a.work.now c.requires.region_size_bound.0 c.requires.l_in_bounds.0 f
-    (length-part-of (width a.d) c.merge_word-value.result (bit_or (high-care (goal.at.returns-then-high-low-eq0 c).After-half_word-high_care) (low-care (goal.at.returns-then-high-low-eq0 c).After-half_word-high_care))) (omega (arith, c.requires.region_size_bound.1))
+    (length-part-of (width a.d) c.merge_word-value.result
+    (bit_or (high-care (goal.at.returns-then-high-low-eq0 c).After-half_word-high_care)
+    (low-care (goal.at.returns-then-high-low-eq0 c).After-half_word-high_care)))
+    (omega (arith, c.requires.region_size_bound.1))
     c.link_word-n.result c.link_word-n.new.work c.repeat_link.new.work
-    (left (goal.at.returns-then-high-low-eq0 c).After-half_word-high_care a.k a.l c.merge_word-value.result (bit_or (high-care (goal.at.returns-then-high-low-eq0 c).After-half_word-high_care) (low-care (goal.at.returns-then-high-low-eq0 c).After-half_word-high_care)) _ a.work.now _ (c.link_word-n.ensures.entries, c.link_word-n.ensures.work))
-    c.repeat_link.ensures in let all = linked-as a.d a.to a.k a.l c.link_word-n.result a.work.now c.repeat_link.new.work _ _ _ _
-    ((candidates (goal.at.returns-then-high-low-eq0 c).After-half_word-high_care).united false c.merge_word-value.result c.if-high-low-eq0.true c.merge_word-value.ensures)
-    ((candidates (goal.at.returns-then-high-low-eq0 c).After-half_word-high_care).united true c.merge_word-value.result c.if-high-low-eq0.true c.merge_word-value.ensures) linked in record { entries = all.0; work = all.1 }
+    (left (goal.at.returns-then-high-low-eq0 c).After-half_word-high_care a.k a.l c.merge_word-value.result
+    (bit_or (high-care (goal.at.returns-then-high-low-eq0 c).After-half_word-high_care)
+    (low-care (goal.at.returns-then-high-low-eq0 c).After-half_word-high_care)) _ a.work.now _
+    (c.link_word-n.ensures.entries, c.link_word-n.ensures.work))
+    c.repeat_link.ensures in
+    let all = linked-as a.d a.to a.k a.l c.link_word-n.result a.work.now c.repeat_link.new.work _ _ _ _
+    ((candidates (goal.at.returns-then-high-low-eq0 c).After-half_word-high_care).united false c.merge_word-value.result
+    c.if-high-low-eq0.true c.merge_word-value.ensures)
+    ((candidates (goal.at.returns-then-high-low-eq0 c).After-half_word-high_care).united true c.merge_word-value.result
+    c.if-high-low-eq0.true c.merge_word-value.ensures) linked in
+    record { entries = all.0; work = all.1 }
 
 pub link_word-n-requires-2 : goal.link_word-n-requires-2
 link_word-n-requires-2 c =
-    let t = asks (goal.at.link_word-n-requires-2 c).After-half_word-high_care c.args.k _ (candidates (goal.at.link_word-n-requires-2 c).After-half_word-high_care).low_small (omega (arith, c.requires.region_size_bound.1)) in record {
+    let t = asks (goal.at.link_word-n-requires-2 c).After-half_word-high_care c.args.k _
+    (candidates (goal.at.link_word-n-requires-2 c).After-half_word-high_care).low_small
+    (omega (arith, c.requires.region_size_bound.1)) in
+    record {
       w_nonzero = t.0;
       word_size_in_bounds = (c.requires.l_in_bounds.1, t.1);
       l_in_bounds = omega (arith, c.requires.l_in_bounds.0);
@@ -121,11 +139,19 @@ link_word-n-requires-2 c =
 pub link_word-requires : goal.link_word-requires
 link_word-requires c =
     let a = c.args in
-    let f = part_of (width a.d) (low (goal.at.link_word-requires c).After-half_word-high_care) (low-care (goal.at.link_word-requires c).After-half_word-high_care) in
+    let f = part_of (width a.d) (low (goal.at.link_word-requires c).After-half_word-high_care)
+    (low-care (goal.at.link_word-requires c).After-half_word-high_care) in
     let room = second-room a.d a.to a.k a.l a.work.now c.requires.region_size_bound.0 c.requires.l_in_bounds.0 f
-    (length-part-of (width a.d) (low (goal.at.link_word-requires c).After-half_word-high_care) (low-care (goal.at.link_word-requires c).After-half_word-high_care)) c.requires.region_size_bound.1 c.link_word-n-2.result
-    (left (goal.at.link_word-requires c).After-half_word-high_care a.k a.l (low (goal.at.link_word-requires c).After-half_word-high_care) (low-care (goal.at.link_word-requires c).After-half_word-high_care) _ a.work.now _ (c.link_word-n-2.ensures.entries, c.link_word-n-2.ensures.work)).0 in
-    let t = asks (goal.at.link_word-requires c).After-half_word-high_care c.link_word-n-2.result _ (candidates (goal.at.link_word-requires c).After-half_word-high_care).high_small room in record {
+    (length-part-of (width a.d) (low (goal.at.link_word-requires c).After-half_word-high_care)
+    (low-care (goal.at.link_word-requires c).After-half_word-high_care)) c.requires.region_size_bound.1
+    c.link_word-n-2.result
+    (left (goal.at.link_word-requires c).After-half_word-high_care a.k a.l
+    (low (goal.at.link_word-requires c).After-half_word-high_care)
+    (low-care (goal.at.link_word-requires c).After-half_word-high_care) _ a.work.now _
+    (c.link_word-n-2.ensures.entries, c.link_word-n-2.ensures.work)).0 in
+    let t = asks (goal.at.link_word-requires c).After-half_word-high_care c.link_word-n-2.result _
+    (candidates (goal.at.link_word-requires c).After-half_word-high_care).high_small room in
+    record {
       w_nonzero = t.0;
       word_size_in_bounds = (search rules, t.1);
       l_in_bounds = search rules;
@@ -134,12 +160,22 @@ link_word-requires c =
 pub returns : goal.returns
 returns c =
     let a = c.args in
-    let f = part_of (width a.d) (low (goal.at.returns c).After-half_word-high_care) (low-care (goal.at.returns c).After-half_word-high_care) in
-    let g = part_of (width a.d) (high (goal.at.returns c).After-half_word-high_care) (high-care (goal.at.returns c).After-half_word-high_care) in
+    let f = part_of (width a.d) (low (goal.at.returns c).After-half_word-high_care)
+    (low-care (goal.at.returns c).After-half_word-high_care) in
+    let g = part_of (width a.d) (high (goal.at.returns c).After-half_word-high_care)
+    (high-care (goal.at.returns c).After-half_word-high_care) in
     let linked = both-linked a.d a.to a.k a.l a.work.now c.requires.region_size_bound.0 c.requires.l_in_bounds.0 f
-    (length-part-of (width a.d) (low (goal.at.returns c).After-half_word-high_care) (low-care (goal.at.returns c).After-half_word-high_care)) c.requires.region_size_bound.1 g (length-part-of (width a.d) (high (goal.at.returns c).After-half_word-high_care) (high-care (goal.at.returns c).After-half_word-high_care))
+    (length-part-of (width a.d) (low (goal.at.returns c).After-half_word-high_care)
+    (low-care (goal.at.returns c).After-half_word-high_care)) c.requires.region_size_bound.1 g
+    (length-part-of (width a.d) (high (goal.at.returns c).After-half_word-high_care)
+    (high-care (goal.at.returns c).After-half_word-high_care))
     c.link_word-n-2.result c.link_word.result c.link_word-n-2.new.work c.link_word.new.work
-    (left (goal.at.returns c).After-half_word-high_care a.k a.l (low (goal.at.returns c).After-half_word-high_care) (low-care (goal.at.returns c).After-half_word-high_care) _ a.work.now _ (c.link_word-n-2.ensures.entries, c.link_word-n-2.ensures.work))
-    (left (goal.at.returns c).After-half_word-high_care c.link_word-n-2.result (a.l + 2) (high (goal.at.returns c).After-half_word-high_care) (high-care (goal.at.returns c).After-half_word-high_care) _ c.link_word-n-2.new.work _ (c.link_word.ensures.entries, c.link_word.ensures.work)) in
-    let o = (candidates (goal.at.returns c).After-half_word-high_care).apart c.if-high-low-eq0.false in let all = linked-as a.d a.to a.k a.l c.link_word.result a.work.now c.link_word.new.work _ _ _ _
+    (left (goal.at.returns c).After-half_word-high_care a.k a.l (low (goal.at.returns c).After-half_word-high_care)
+    (low-care (goal.at.returns c).After-half_word-high_care) _ a.work.now _
+    (c.link_word-n-2.ensures.entries, c.link_word-n-2.ensures.work))
+    (left (goal.at.returns c).After-half_word-high_care c.link_word-n-2.result (a.l + 2)
+    (high (goal.at.returns c).After-half_word-high_care) (high-care (goal.at.returns c).After-half_word-high_care) _
+    c.link_word-n-2.new.work _ (c.link_word.ensures.entries, c.link_word.ensures.work)) in
+    let o = (candidates (goal.at.returns c).After-half_word-high_care).apart c.if-high-low-eq0.false in
+    let all = linked-as a.d a.to a.k a.l c.link_word.result a.work.now c.link_word.new.work _ _ _ _
     o.0 o.1 linked in record { entries = all.0; work = all.1 }

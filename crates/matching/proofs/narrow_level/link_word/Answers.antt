@@ -20,13 +20,19 @@ pub candidate_word-linked-requires : goal.candidate_word-linked-requires
 candidate_word-linked-requires c =
     let a = c.args in record {
       w_nonzero = c.requires.w_nonzero;
-      word_size_in_bounds = lent-room a.k a.to a.w (lent (goal.at.candidate_word-linked-requires c).Start) a.work.now (lent_is (goal.at.candidate_word-linked-requires c).Start) c.requires.word_size_in_bounds.1 c.requires.word_size_in_bounds.0;
+      word_size_in_bounds = lent-room a.k a.to a.w (lent (goal.at.candidate_word-linked-requires c).Start) a.work.now
+          (lent_is (goal.at.candidate_word-linked-requires c).Start) c.requires.word_size_in_bounds.1
+          c.requires.word_size_in_bounds.0;
     }
 
 pub returns : goal.returns
 returns c =
     let p = c.put_link in
     let m = c.candidate_word-linked in
-    let a = c.args in let all = linked-part a.w a.k a.to (part_of a.w a.f a.c) a.work.now (length-part-of a.w a.f a.c) c.requires.word_size_in_bounds.1
-    (omega (arith, c.requires.word_size_in_bounds.0)) (lent (goal.at.returns c).Start) a.l m.result.entries m.result.link m.new.region p.new.work (lent_is (goal.at.returns c).Start)
-    c.requires.word_size_in_bounds.0 (m.ensures.entries, (m.ensures.link, m.ensures.region)) p.ensures in record { entries = all.0; work = all.1 }
+    let a = c.args in
+    let all = linked-part a.w a.k a.to (part_of a.w a.f a.c) a.work.now (length-part-of a.w a.f a.c)
+    c.requires.word_size_in_bounds.1
+    (omega (arith, c.requires.word_size_in_bounds.0)) (lent (goal.at.returns c).Start) a.l m.result.entries
+    m.result.link m.new.region p.new.work (lent_is (goal.at.returns c).Start)
+    c.requires.word_size_in_bounds.0 (m.ensures.entries, (m.ensures.link, m.ensures.region)) p.ensures in
+    record { entries = all.0; work = all.1 }

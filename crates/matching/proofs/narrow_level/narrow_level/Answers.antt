@@ -52,8 +52,11 @@ pub link_narrow-k-requires : goal.link_narrow-k-requires
 link_narrow-k-requires c =
     let a = c.args in
     let t = turn-asks a.d a.from a.count a.to a.links a.work.now c.requires.fact c.requires.region_size_bound c.requires.d_bound_2
-    c.loop-e.e (offset (goal.at.link_narrow-k-requires c).In-loop-e) c.loop-e-test.true (at_part (goal.at.link_narrow-k-requires c).In-loop-e)
-    c.loop-e.k (a.links + 4 * c.loop-e.e) c.loop-e.work c.requires.word_size_in_bounds refl c.loop-e.invariant.1 c.loop-e.invariant.2 in record {
+    c.loop-e.e (offset (goal.at.link_narrow-k-requires c).In-loop-e) c.loop-e-test.true
+    (at_part (goal.at.link_narrow-k-requires c).In-loop-e)
+    c.loop-e.k (a.links + 4 * c.loop-e.e) c.loop-e.work c.requires.word_size_in_bounds refl c.loop-e.invariant.1
+    c.loop-e.invariant.2 in
+    record {
       d_bound = (c.requires.d_bound, t.0);
       region_size_bound = t.1.0;
       l_in_bounds = t.1.1;

@@ -104,14 +104,17 @@ inverted c = sym (c.loop-j.invariant.3 ∙ tested true c)
 
 pub returns-then-plain-eq0 : goal.returns-then-plain-eq0
 returns-then-plain-eq0 c =
-    sym (found_first false _ 0 _ _ [] (plain-first _ _ _ (plain (goal.at.returns-then-plain-eq0 c).After-loop-j ∙ eq-eqb _ 0 c.if-plain-eq0.true)))
+    sym (found_first false _ 0 _ _ []
+    (plain-first _ _ _ (plain (goal.at.returns-then-plain-eq0 c).After-loop-j ∙ eq-eqb _ 0 c.if-plain-eq0.true)))
 
 pub returns-then-inverted-eq0 : goal.returns-then-inverted-eq0
 returns-then-inverted-eq0 c =
     sym (found_first true _ 0 _ _ []
-    (inverted-first _ _ _ (plain (goal.at.returns-then-inverted-eq0 c).After-loop-j ∙ ne_eqb _ 0 c.if-plain-eq0.false) (inverted (goal.at.returns-then-inverted-eq0 c).After-loop-j ∙ eq-eqb _ 0 c.if-inverted-eq0.true)))
+    (inverted-first _ _ _ (plain (goal.at.returns-then-inverted-eq0 c).After-loop-j ∙ ne_eqb _ 0 c.if-plain-eq0.false)
+    (inverted (goal.at.returns-then-inverted-eq0 c).After-loop-j ∙ eq-eqb _ 0 c.if-inverted-eq0.true)))
 
 pub returns : goal.returns
 returns c =
-    sym (found-pass _ 0 _ _ [] (plain (goal.at.returns c).After-loop-j ∙ ne_eqb _ 0 c.if-plain-eq0.false) (inverted (goal.at.returns c).After-loop-j ∙ ne_eqb _ 0 c.if-inverted-eq0.false)
+    sym (found-pass _ 0 _ _ [] (plain (goal.at.returns c).After-loop-j ∙ ne_eqb _ 0 c.if-plain-eq0.false)
+    (inverted (goal.at.returns c).After-loop-j ∙ ne_eqb _ 0 c.if-inverted-eq0.false)
     ∙ found-last _ 1 _)

@@ -10,7 +10,8 @@ use Rattle.matching.proofs.Wordwise.WholeWords.{byte_test}
 use Rattle.matching.proofs.wide.agree_words.Given as goal
 
 abbrev pub invariant-loop-j : goal.invariant-loop-j
-invariant-loop-j l = (l.j ≤ l.w) × (l.j % 8 ≡ 0) × (eqb l.plain 0 ≡ all (byte_test false l.w l.f (take (l.w + l.w) (drop l.a l.region))) (up_to l.j))
+invariant-loop-j l = (l.j ≤ l.w) × (l.j % 8 ≡ 0)
+    × (eqb l.plain 0 ≡ all (byte_test false l.w l.f (take (l.w + l.w) (drop l.a l.region))) (up_to l.j))
     × (eqb l.inverted 0 ≡ all (byte_test true l.w l.f (take (l.w + l.w) (drop l.a l.region))) (up_to l.j))
 
 abbrev pub decreases-loop-j : goal.decreases-loop-j

@@ -92,7 +92,8 @@ pub loop-e-preserved : goal.loop-e-preserved
 loop-e-preserved c =
     let l = c.loop-e in
     let a = c.args in
-    let p = one-passed a.w a.f.now (part_on a.w a.region.now l.e) c.agree_words-found.result (found-is (goal.at.loop-e-preserved c).After-agree_words-found) c.if-found-gt0.false in (
+    let p = one-passed a.w a.f.now (part_on a.w a.region.now l.e) c.agree_words-found.result
+    (found-is (goal.at.loop-e-preserved c).After-agree_words-found) c.if-found-gt0.false in (
       search rules,
       omega (arith, l.invariant.1),
       passed-more a.w a.f.now a.region.now a.k l.e c.loop-e-test.true l.invariant.2 p.0 p.1,

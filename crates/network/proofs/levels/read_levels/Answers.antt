@@ -53,7 +53,12 @@ read_level-requires c =
     let level =
     turn_level a.m a.entries a.counts a.n l.p (l.p - 1) s l.work l.cells h l.invariant.0 l.invariant.3 l.invariant.4
     (l.below - 4 * get_or a.entries (l.p - 1) 0) l.below (l.base - get_or a.counts (l.p - 1) 0) (omega arith) l.invariant.1 (omega arith) in
-    let few = c.requires.by_index (l.p - 1) (omega arith) in record { p_lt_most_variables = omega (arith, ap (λ (u : Made). u.next) level); base_bound = omega (arith, ap (λ (u : Made). u.next) level); base_in_bounds = omega (arith, ap (λ (u : Made). u.next) level) }
+    let few = c.requires.by_index (l.p - 1) (omega arith) in
+    record {
+      p_lt_most_variables = omega (arith, ap (λ (u : Made). u.next) level);
+      base_bound = omega (arith, ap (λ (u : Made). u.next) level);
+      base_in_bounds = omega (arith, ap (λ (u : Made). u.next) level);
+    }
 
 pub loop-p-preserved : goal.loop-p-preserved
 loop-p-preserved c =

@@ -5,24 +5,40 @@ use Rattle.network.proofs.reading.read_links.Goals as goal
 
 pub returns-then-roots-lt-ROOTS : goal.returns-then-roots-lt-ROOTS
 returns-then-roots-lt-ROOTS c =
-    let a = c.args in let all = short-case a.n a.m a.entries a.work.now a.roots.now a.cells.now c.if-roots-lt-ROOTS.true in record { answer = all.0; roots = all.1.0; cells = all.1.1.0; work = all.1.1.1 }
+    let a = c.args in
+    let all = short-case a.n a.m a.entries a.work.now a.roots.now a.cells.now c.if-roots-lt-ROOTS.true in
+    record { answer = all.0; roots = all.1.0; cells = all.1.1.0; work = all.1.1.1 }
 
 pub returns-then-cells-total : goal.returns-then-cells-total
 returns-then-cells-total c =
-    let a = c.args in let all = small-case a.n a.m a.entries a.work.now a.roots.now a.cells.now c.if-roots-lt-ROOTS.false c.count_links-levels.result
-    c.count_links-levels.ensures c.in-Done.total c.in-Done.is c.if-cells-total.true c.clear.new.work c.clear.ensures in record { answer = all.0; roots = all.1.0; cells = all.1.1.0; work = all.1.1.1 }
+    let a = c.args in
+    let all = small-case a.n a.m a.entries a.work.now a.roots.now a.cells.now c.if-roots-lt-ROOTS.false
+    c.count_links-levels.result
+    c.count_links-levels.ensures c.in-Done.total c.in-Done.is c.if-cells-total.true c.clear.new.work c.clear.ensures in
+    record { answer = all.0; roots = all.1.0; cells = all.1.1.0; work = all.1.1.1 }
 
 pub lay_out-requires : goal.lay_out-requires
 lay_out-requires c =
-    let a = c.args in let all = ready a.n a.m a.entries a.work.now a.roots.now a.cells.now c.if-roots-lt-ROOTS.false c.count_links-levels.result
-    c.count_links-levels.ensures c.in-Done.total c.in-Done.is c.if-cells-total.false in record { n_le_most_variables = all.0; total_value = all.1.0; roots_size_in_bounds = all.1.1.0; by_index = all.1.1.1 }
+    let a = c.args in
+    let all = ready a.n a.m a.entries a.work.now a.roots.now a.cells.now c.if-roots-lt-ROOTS.false
+    c.count_links-levels.result
+    c.count_links-levels.ensures c.in-Done.total c.in-Done.is c.if-cells-total.false in
+    record {
+      n_le_most_variables = all.0;
+      total_value = all.1.0;
+      roots_size_in_bounds = all.1.1.0;
+      by_index = all.1.1.1;
+    }
 
 pub returns : goal.returns
 returns c =
     let a = c.args in
-    let y = c.lay_out in let all = read-case a.n a.m a.entries a.work.now a.roots.now a.cells.now c.if-roots-lt-ROOTS.false c.count_links-levels.result
+    let y = c.lay_out in
+    let all = read-case a.n a.m a.entries a.work.now a.roots.now a.cells.now c.if-roots-lt-ROOTS.false
+    c.count_links-levels.result
     c.count_links-levels.ensures c.in-Done.total c.in-Done.is c.if-cells-total.false y.new.work y.new.roots
-    y.new.cells y.ensures.work y.ensures.cells y.ensures.roots in record { answer = all.0; roots = all.1.0; cells = all.1.1.0; work = all.1.1.1 }
+    y.new.cells y.ensures.work y.ensures.cells y.ensures.roots in
+    record { answer = all.0; roots = all.1.0; cells = all.1.1.0; work = all.1.1.1 }
 
 pub returns-in_default : goal.returns-in_default
 returns-in_default c =

@@ -34,7 +34,15 @@ write_block-requires c =
     let a = c.args in
     let few = cell-blocks-most a.state.count c.requires.0.counted in record {
       writable = (c.requires.0, omega (arith, few, c.blocks_for-blocks.ensures, c.loop-k-test.true));
-      k_in_bounds = omega (arith, few, c.blocks_for-blocks.ensures, c.loop-k-test.true, same (goal.at.write_block-requires c).At-loop-k, file-size, c.requires.1);
+      k_in_bounds = omega (
+        arith,
+        few,
+        c.blocks_for-blocks.ensures,
+        c.loop-k-test.true,
+        same (goal.at.write_block-requires c).At-loop-k,
+        file-size,
+        c.requires.1,
+      );
       file_value = over-already (file_byte a.state a.roots.now a.cells.now) (block_size * c.loop-k.k) a.file.now c.loop-k.file
           c.loop-k.invariant.1;
     }

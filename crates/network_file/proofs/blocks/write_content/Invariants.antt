@@ -10,7 +10,9 @@ use Rattle.network_file.specs.Write.{block_content, file_byte}
 use Rattle.network_file.proofs.blocks.write_content.Given as goal
 
 abbrev pub invariant-loop-i : goal.invariant-loop-i
-invariant-loop-i l = (l.i ≤ check_at) × (l.total ≡ sum_below (λ j. suc j * block_content l.state l.roots l.cells l.k j) l.i) × (l.total ≤ check_at * 255 * l.i)
+invariant-loop-i l = (l.i ≤ check_at)
+    × (l.total ≡ sum_below (λ j. suc j * block_content l.state l.roots l.cells l.k j) l.i)
+    × (l.total ≤ check_at * 255 * l.i)
     × (l.file ≡ over (file_byte l.state l.roots l.cells) (block_size * l.k + l.i) l.initial.file)
 
 abbrev pub decreases-loop-i : goal.decreases-loop-i

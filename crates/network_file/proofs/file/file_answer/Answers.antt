@@ -25,10 +25,19 @@ returns-then-not-whole_blocks c =
 pub returns-then-not-is_done : goal.returns-then-not-is_done
 unfolding network_file_answer
 returns-then-not-is_done c =
-    rw (whole (goal.at.returns-then-not-is_done c).Else-not-whole_blocks, ← heading (goal.at.returns-then-not-is_done c).After-block_answer-answer, sym c.is_done.ensures ∙ not-true _ c.if-not-is_done.true-raw)
+    rw (
+      whole (goal.at.returns-then-not-is_done c).Else-not-whole_blocks,
+      ← heading (goal.at.returns-then-not-is_done c).After-block_answer-answer,
+      sym c.is_done.ensures
+          ∙ not-true _ c.if-not-is_done.true-raw,
+    )
 
 pub returns : goal.returns
 unfolding network_file_answer
 returns c =
-    rw (whole (goal.at.returns c).Else-not-whole_blocks, ap done (sym (heading (goal.at.returns c).After-block_answer-answer)) ∙ sym c.is_done.ensures ∙ not-false _ c.if-not-is_done.false-raw)
+    rw (
+      whole (goal.at.returns c).Else-not-whole_blocks,
+      ap done (sym (heading (goal.at.returns c).After-block_answer-answer)) ∙ sym c.is_done.ensures
+          ∙ not-false _ c.if-not-is_done.false-raw,
+    )
     (c.cells_answer.ensures ∙ ap (cells_answer c.args.file.now) c.file_count.ensures.0)

@@ -44,9 +44,17 @@ first_good c = sym (past-order-2 c) ∙ not-false _ c.if-not-unused_between.fals
 pub returns-then-not-unused_zero : goal.returns-then-not-unused_zero
 unfolding unused_heading
 returns-then-not-unused_zero c =
-    rw (first_good (goal.at.returns-then-not-unused_zero c).Else-not-unused_between, sym (past-roots (goal.at.returns-then-not-unused_zero c).After-unused_zero) ∙ not-true _ c.if-not-unused_zero.true-raw)
+    rw (
+      first_good (goal.at.returns-then-not-unused_zero c).Else-not-unused_between,
+      sym (past-roots (goal.at.returns-then-not-unused_zero c).After-unused_zero)
+          ∙ not-true _ c.if-not-unused_zero.true-raw,
+    )
 
 pub returns : goal.returns
 unfolding unused_heading
 returns c =
-    rw (first_good (goal.at.returns c).Else-not-unused_between, sym (past-roots (goal.at.returns c).After-unused_zero) ∙ not-false _ c.if-not-unused_zero.false-raw)
+    rw (
+      first_good (goal.at.returns c).Else-not-unused_between,
+      sym (past-roots (goal.at.returns c).After-unused_zero)
+          ∙ not-false _ c.if-not-unused_zero.false-raw,
+    )

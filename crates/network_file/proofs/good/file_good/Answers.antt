@@ -20,7 +20,8 @@ unfolding file_diagram
 own-formed c =
     let a = c.args in
     let f = a.file.now in
-    ap₂ (λ (x y : ℕ). well_formed true a.n a.m (diagram_by x y (cell_number f) (file_root f))) c.requires.count_value.0 c.requires.count_value.1
+    ap₂ (λ (x y : ℕ). well_formed true a.n a.m (diagram_by x y (cell_number f) (file_root f))) c.requires.count_value.0
+    c.requires.count_value.1
 
 pub returns-then-not-roots_good : goal.returns-then-not-roots_good
 returns-then-not-roots_good c =

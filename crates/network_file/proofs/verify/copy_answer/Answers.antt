@@ -24,5 +24,6 @@ returns c =
     let h = shape_of f c.requires.file_value in
     c.test_held.ensures ∙ ap (λ (h : State). canonical_answer h roots cells) t.ensures
     ∙ copy-checked f h cells roots
-    (copied-over f (outputs-fit f h) c.args.cells.now c.args.roots.now cells roots c.requires.roots_size_in_bounds.1 c.requires.roots_size_in_bounds.0 ec
+    (copied-over f (outputs-fit f h) c.args.cells.now c.args.roots.now cells roots c.requires.roots_size_in_bounds.1
+    c.requires.roots_size_in_bounds.0 ec
     z.ensures)

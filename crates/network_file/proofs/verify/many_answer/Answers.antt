@@ -30,7 +30,8 @@ file_good-requires c =
 pub returns-then-file_good : goal.returns-then-file_good
 returns-then-file_good c =
     let a = c.args in
-    many-formed a.file.now (shape_of a.file.now c.requires.file_value) (omega arith) (sym (own (goal.at.returns-then-file_good c).After-file_good) ∙ c.if-file_good.true)
+    many-formed a.file.now (shape_of a.file.now c.requires.file_value) (omega arith)
+    (sym (own (goal.at.returns-then-file_good c).After-file_good) ∙ c.if-file_good.true)
 
 pub returns : goal.returns
 returns c =

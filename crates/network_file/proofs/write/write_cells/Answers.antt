@@ -29,36 +29,53 @@ long-file c = omega (arith, file-size, c.if-file-lt-FILE.false)
 
 pub returns-then-roots-lt-ROOTS : goal.returns-then-roots-lt-ROOTS
 returns-then-roots-lt-ROOTS c =
-    let a = c.args in let all = short-roots a.state a.roots.now a.cells.now a.work.now a.file.now (omega (arith, roots-size, c.if-roots-lt-ROOTS.true)) in record { answer = all.0; work = all.1.0; file = all.1.1 }
+    let a = c.args in
+    let all = short-roots a.state a.roots.now a.cells.now a.work.now a.file.now
+    (omega (arith, roots-size, c.if-roots-lt-ROOTS.true)) in
+    record { answer = all.0; work = all.1.0; file = all.1.1 }
 
 pub returns-then-work-lt-WORK : goal.returns-then-work-lt-WORK
 returns-then-work-lt-WORK c =
-    let a = c.args in let all = short-work a.state a.roots.now a.cells.now a.work.now a.file.now (omega (arith, work-size, c.if-work-lt-WORK.true)) in record { answer = all.0; work = all.1.0; file = all.1.1 }
+    let a = c.args in
+    let all = short-work a.state a.roots.now a.cells.now a.work.now a.file.now
+    (omega (arith, work-size, c.if-work-lt-WORK.true)) in
+    record { answer = all.0; work = all.1.0; file = all.1.1 }
 
 pub returns-then-file-lt-FILE : goal.returns-then-file-lt-FILE
 returns-then-file-lt-FILE c =
-    let a = c.args in let all = short-file a.state a.roots.now a.cells.now a.work.now a.file.now (omega (arith, file-size, c.if-file-lt-FILE.true)) in record { answer = all.0; work = all.1.0; file = all.1.1 }
+    let a = c.args in
+    let all = short-file a.state a.roots.now a.cells.now a.work.now a.file.now
+    (omega (arith, file-size, c.if-file-lt-FILE.true)) in
+    record { answer = all.0; work = all.1.0; file = all.1.1 }
 
 pub write_blocks-requires : goal.write_blocks-requires
 write_blocks-requires c =
     let x = c.test_held-answer in
     let a = c.args in
-    let p = ap done (sym x.ensures) ∙ sym c.is_done.ensures ∙ c.if-is_done.true in
-    (writable a.state a.roots.now a.cells.now (success a.state a.roots.now a.cells.now (to-T p)), long-file (goal.at.write_blocks-requires c).Else-file-lt-FILE)
+    let p = ap done (sym x.ensures) ∙ sym c.is_done.ensures ∙ c.if-is_done.true in (
+      writable a.state a.roots.now a.cells.now (success a.state a.roots.now a.cells.now (to-T p)),
+      long-file (goal.at.write_blocks-requires c).Else-file-lt-FILE,
+    )
 
 pub returns-then-is_done : goal.returns-then-is_done
 returns-then-is_done c =
     let y = c.write_blocks in
     let w = c.clear_after in
     let x = c.test_held-answer in
-    let a = c.args in let all = succeeded a.state a.roots.now a.cells.now a.work.now a.file.now
-    (long-roots (goal.at.returns-then-is_done c).Else-file-lt-FILE) (long-work (goal.at.returns-then-is_done c).Else-file-lt-FILE) (long-file (goal.at.returns-then-is_done c).Else-file-lt-FILE) x.result x.ensures w.new.work w.ensures
+    let a = c.args in
+    let all = succeeded a.state a.roots.now a.cells.now a.work.now a.file.now
+    (long-roots (goal.at.returns-then-is_done c).Else-file-lt-FILE)
+    (long-work (goal.at.returns-then-is_done c).Else-file-lt-FILE)
+    (long-file (goal.at.returns-then-is_done c).Else-file-lt-FILE) x.result x.ensures w.new.work w.ensures
     (sym c.is_done.ensures ∙ c.if-is_done.true) y.new.file y.ensures in record { answer = all.0; work = all.1.0; file = all.1.1 }
 
 pub returns-else-is_done : goal.returns-else-is_done
 returns-else-is_done c =
     let w = c.clear_after in
     let x = c.test_held-answer in
-    let a = c.args in let all = refused a.state a.roots.now a.cells.now a.work.now a.file.now
-    (long-roots (goal.at.returns-else-is_done c).Else-file-lt-FILE) (long-work (goal.at.returns-else-is_done c).Else-file-lt-FILE) (long-file (goal.at.returns-else-is_done c).Else-file-lt-FILE) x.result x.ensures w.new.work w.ensures
+    let a = c.args in
+    let all = refused a.state a.roots.now a.cells.now a.work.now a.file.now
+    (long-roots (goal.at.returns-else-is_done c).Else-file-lt-FILE)
+    (long-work (goal.at.returns-else-is_done c).Else-file-lt-FILE)
+    (long-file (goal.at.returns-else-is_done c).Else-file-lt-FILE) x.result x.ensures w.new.work w.ensures
     (sym c.is_done.ensures ∙ c.if-is_done.false) in record { answer = all.0; work = all.1.0; file = all.1.1 }

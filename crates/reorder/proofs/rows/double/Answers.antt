@@ -58,7 +58,8 @@ loop-s-preserved c =
     let x : ℕ = get_or l.map l.s 0 + a.share in (
       search rules,
       length-set l.map (a.count + l.s) x ∙ l.invariant.1,
-      from_more f a.count a.map.now l.s x l.map (inside (goal.at.loop-s-preserved c).In-loop-s) l.invariant.2 (ap (λ y. y + a.share) (read (goal.at.loop-s-preserved c).In-loop-s)),
+      from_more f a.count a.map.now l.s x l.map (inside (goal.at.loop-s-preserved c).In-loop-s) l.invariant.2
+          (ap (λ y. y + a.share) (read (goal.at.loop-s-preserved c).In-loop-s)),
     )
 
 pub shape_of-map : goal.shape_of-map

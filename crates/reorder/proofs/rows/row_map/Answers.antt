@@ -43,7 +43,8 @@ double-requires c =
     let l = c.loop-l.l in
     let k : 1 * 2 ^ l % 18446744073709551616 ≡ 2 ^ l = one_shifted l (omega arith) in (
       omega (arith, k, size (goal.at.double-requires c).At-loop-l, most-rows, rows-within a.n l h (omega arith)),
-      λ q r. next-room a.n a.order h l (omega arith) g.result c.loop-l.map g.ensures (rows (goal.at.double-requires c).At-loop-l) q (omega (arith, k)),
+      λ q r. next-room a.n a.order h l (omega arith) g.result c.loop-l.map g.ensures
+          (rows (goal.at.double-requires c).At-loop-l) q (omega (arith, k)),
     )
 
 pub loop-l-preserved : goal.loop-l-preserved

@@ -32,7 +32,8 @@ loop-v-preserved c =
     let a = c.args in
     let l = c.loop-v in (
       search rules,
-      shares-more a.n a.order l.v (omega arith) (omega arith) l.shares l.invariant.1 c.level_bit-l.result _ (at_level (goal.at.loop-v-preserved c).After-level_bit-l) refl,
+      shares-more a.n a.order l.v (omega arith) (omega arith) l.shares l.invariant.1 c.level_bit-l.result _
+          (at_level (goal.at.loop-v-preserved c).After-level_bit-l) refl,
     )
 
 pub returns : goal.returns

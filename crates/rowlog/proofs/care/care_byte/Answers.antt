@@ -29,7 +29,12 @@ loop-b-preserved c =
     let a = c.args in
     let f : ℕ → Bool = λ k. care_bit a.counts.now a.least a.n a.end (8 * a.i + k) in (
       omega arith,
-      (elim c.if-care_bit.branch [ then-care_bit w ↦ w.byte-is ∙ bit-set l.b f l.byte l.invariant.1 (omega arith) (sym v.ensures ∙ w.if-care_bit.true) | else-care_bit w ↦ w.byte-is ∙ bit-clear l.b f l.byte l.invariant.1 (sym v.ensures ∙ w.if-care_bit.false) ]),
+      (elim c.if-care_bit.branch [
+        | then-care_bit w ↦ w.byte-is
+            ∙ bit-set l.b f l.byte l.invariant.1 (omega arith) (sym v.ensures ∙ w.if-care_bit.true)
+        | else-care_bit w ↦
+            w.byte-is ∙ bit-clear l.b f l.byte l.invariant.1 (sym v.ensures ∙ w.if-care_bit.false)
+      ]),
     )
 
 pub returns : goal.returns

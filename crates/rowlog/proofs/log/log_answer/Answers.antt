@@ -133,18 +133,36 @@ overflow_shl-end c =
 
 pub returns-then-counts-end : goal.returns-then-counts-end
 returns-then-counts-end c =
-    log-few-counts (state (goal.at.returns-then-counts-end c).Else-not-holds_table) (rows (goal.at.returns-then-counts-end c).Else-not-holds_table) (counts (goal.at.returns-then-counts-end c).Else-not-holds_table) (care (goal.at.returns-then-counts-end c).Else-not-holds_table) (long (goal.at.returns-then-counts-end c).Else-not-holds_table) (held (goal.at.returns-then-counts-end c).Else-not-holds_table)
+    log-few-counts (state (goal.at.returns-then-counts-end c).Else-not-holds_table)
+    (rows (goal.at.returns-then-counts-end c).Else-not-holds_table)
+    (counts (goal.at.returns-then-counts-end c).Else-not-holds_table)
+    (care (goal.at.returns-then-counts-end c).Else-not-holds_table)
+    (long (goal.at.returns-then-counts-end c).Else-not-holds_table)
+    (held (goal.at.returns-then-counts-end c).Else-not-holds_table)
     (omega (arith, c.if-counts-end.true, rows_end (goal.at.returns-then-counts-end c).Else-not-holds_table))
 
 pub returns-then-not-all_below : goal.returns-then-not-all_below
 returns-then-not-all_below c =
     let r = c.all_below in
-    log-no-row (state (goal.at.returns-then-not-all_below c).Else-not-holds_table) (rows (goal.at.returns-then-not-all_below c).Else-not-holds_table) (counts (goal.at.returns-then-not-all_below c).Else-not-holds_table) (care (goal.at.returns-then-not-all_below c).Else-not-holds_table) (long (goal.at.returns-then-not-all_below c).Else-not-holds_table) (held (goal.at.returns-then-not-all_below c).Else-not-holds_table) (counted (goal.at.returns-then-not-all_below c).Else-counts-end)
-    (ap (λ (k : ℕ). all (λ row. ltb row k) (rows (goal.at.returns-then-not-all_below c).Else-not-holds_table)) (sym (rows_end (goal.at.returns-then-not-all_below c).Else-not-holds_table)) ∙ sym r.ensures ∙ not-true r.result c.if-not-all_below.true-raw)
+    log-no-row (state (goal.at.returns-then-not-all_below c).Else-not-holds_table)
+    (rows (goal.at.returns-then-not-all_below c).Else-not-holds_table)
+    (counts (goal.at.returns-then-not-all_below c).Else-not-holds_table)
+    (care (goal.at.returns-then-not-all_below c).Else-not-holds_table)
+    (long (goal.at.returns-then-not-all_below c).Else-not-holds_table)
+    (held (goal.at.returns-then-not-all_below c).Else-not-holds_table)
+    (counted (goal.at.returns-then-not-all_below c).Else-counts-end)
+    (ap (λ (k : ℕ). all (λ row. ltb row k) (rows (goal.at.returns-then-not-all_below c).Else-not-holds_table))
+    (sym (rows_end (goal.at.returns-then-not-all_below c).Else-not-holds_table)) ∙ sym r.ensures
+    ∙ not-true r.result c.if-not-all_below.true-raw)
 
 pub has_room-requires : goal.has_room-requires
 has_room-requires c =
-    omega (arith, rows_end (goal.at.has_room-requires c).Else-not-holds_table, pow_mono {i = (state (goal.at.has_room-requires c).Else-not-holds_table).n} {j = most_variables} (few (goal.at.has_room-requires c).Else-not-holds_table))
+    omega (
+      arith,
+      rows_end (goal.at.has_room-requires c).Else-not-holds_table,
+      pow_mono {i = (state (goal.at.has_room-requires c).Else-not-holds_table).n} {j = most_variables}
+          (few (goal.at.has_room-requires c).Else-not-holds_table),
+    )
 
 -- the room that the records have
 room : (c : After-has_room)
@@ -155,12 +173,19 @@ room c =
 
 pub returns-then-not-has_room : goal.returns-then-not-has_room
 returns-then-not-has_room c =
-    log-too-many (state (goal.at.returns-then-not-has_room c).Else-not-holds_table) (rows (goal.at.returns-then-not-has_room c).Else-not-holds_table) (counts (goal.at.returns-then-not-has_room c).Else-not-holds_table) (care (goal.at.returns-then-not-has_room c).Else-not-holds_table) (long (goal.at.returns-then-not-has_room c).Else-not-holds_table) (held (goal.at.returns-then-not-has_room c).Else-not-holds_table)
+    log-too-many (state (goal.at.returns-then-not-has_room c).Else-not-holds_table)
+    (rows (goal.at.returns-then-not-has_room c).Else-not-holds_table)
+    (counts (goal.at.returns-then-not-has_room c).Else-not-holds_table)
+    (care (goal.at.returns-then-not-has_room c).Else-not-holds_table)
+    (long (goal.at.returns-then-not-has_room c).Else-not-holds_table)
+    (held (goal.at.returns-then-not-has_room c).Else-not-holds_table)
     (counted (goal.at.returns-then-not-has_room c).Else-counts-end) (known (goal.at.returns-then-not-has_room c).Else-not-all_below)
     (sym (room (goal.at.returns-then-not-has_room c).After-has_room) ∙ not-true c.has_room.result c.if-not-has_room.true-raw)
 
 pub returns : goal.returns
 returns c =
-    log-good (state (goal.at.returns c).Else-not-holds_table) (rows (goal.at.returns c).Else-not-holds_table) (counts (goal.at.returns c).Else-not-holds_table) (care (goal.at.returns c).Else-not-holds_table) (long (goal.at.returns c).Else-not-holds_table) (held (goal.at.returns c).Else-not-holds_table)
+    log-good (state (goal.at.returns c).Else-not-holds_table) (rows (goal.at.returns c).Else-not-holds_table)
+    (counts (goal.at.returns c).Else-not-holds_table) (care (goal.at.returns c).Else-not-holds_table)
+    (long (goal.at.returns c).Else-not-holds_table) (held (goal.at.returns c).Else-not-holds_table)
     (counted (goal.at.returns c).Else-counts-end) (known (goal.at.returns c).Else-not-all_below)
     (sym (room (goal.at.returns c).After-has_room) ∙ not-false c.has_room.result c.if-not-has_room.false-raw)

@@ -44,8 +44,10 @@ stream_end c = shifted-out (state c).n (state c).m (few c) (few-outputs (state c
 pub returns-then-not-is_done : goal.returns-then-not-is_done
 returns-then-not-is_done c =
     let a = c.args in
-    let k = c.is_done in let all = log-refused a.state a.rows.now a.counts.now a.care.now a.least c.log_answer-answer.result
-    c.log_answer-answer.ensures (sym k.ensures ∙ not-true k.result c.if-not-is_done.true-raw) in record { outcome = all.0; counts = all.1.0; care = all.1.1 }
+    let k = c.is_done in
+    let all = log-refused a.state a.rows.now a.counts.now a.care.now a.least c.log_answer-answer.result
+    c.log_answer-answer.ensures (sym k.ensures ∙ not-true k.result c.if-not-is_done.true-raw) in
+    record { outcome = all.0; counts = all.1.0; care = all.1.1 }
 
 pub count_rows-requires : goal.count_rows-requires
 count_rows-requires c =
@@ -69,7 +71,9 @@ pub returns : goal.returns
 returns c =
     let a = c.args in
     let x = c.count_rows in
-    let w = c.write_care in let all = log-done a.state a.rows.now a.counts.now a.care.now a.least c.log_answer-answer.result
+    let w = c.write_care in
+    let all = log-done a.state a.rows.now a.counts.now a.care.now a.least c.log_answer-answer.result
     c.log_answer-answer.ensures (is-good (goal.at.returns c).Else-not-is_done) _ _ x.ensures
     (w.ensures
-    ∙ ap (λ (k : ℕ). over (counted_byte x.new.counts a.least a.state.n k) plane_size a.care.now) (stream_end (goal.at.returns c).Else-not-is_done)) in record { outcome = all.0; counts = all.1.0; care = all.1.1 }
+    ∙ ap (λ (k : ℕ). over (counted_byte x.new.counts a.least a.state.n k) plane_size a.care.now)
+    (stream_end (goal.at.returns c).Else-not-is_done)) in record { outcome = all.0; counts = all.1.0; care = all.1.1 }

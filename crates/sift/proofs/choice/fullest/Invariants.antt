@@ -10,7 +10,9 @@ use Rattle.sift.proofs.Passing.LeadingVariable.{leading}
 use Rattle.sift.proofs.choice.fullest.Given as goal
 
 abbrev pub invariant-loop-v : goal.invariant-loop-v
-invariant-loop-v l = (l.v ≤ l.n) × (l.lead ≡ leading (nodes_at l.counts (take l.n l.order)) (keep (λ w. not (get_or l.sifted w false)) (drop l.v (up_to l.n))))
+invariant-loop-v l = (l.v ≤ l.n)
+    × (l.lead ≡ leading (nodes_at l.counts (take l.n l.order))
+    (keep (λ w. not (get_or l.sifted w false)) (drop l.v (up_to l.n))))
 
 abbrev pub decreases-loop-v : goal.decreases-loop-v
 decreases-loop-v l = l.v

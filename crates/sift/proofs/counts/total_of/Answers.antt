@@ -18,7 +18,12 @@ loop-l-init c =
 
 pub bounds-counts-p : goal.bounds-counts-p
 bounds-counts-p c =
-    omega (arith, level-room c.args.counts.now c.args.p c.requires.p_lt_most_variables.0 c.requires.p_lt_most_variables.1, c.loop-l-test.true)
+    omega (
+      arith,
+      level-room c.args.counts.now c.args.p c.requires.p_lt_most_variables.0
+          c.requires.p_lt_most_variables.1,
+      c.loop-l-test.true,
+    )
 
 -- with the count of level l
 more : (c : After-shared_slice_known-1)

@@ -16,15 +16,20 @@ use Rattle.sift.proofs.moves.moves.Goals.{Else-not-holds_table}
 pub returns-then-not-lent_enough : goal.returns-then-not-lent_enough
 returns-then-not-lent_enough c =
     let a = c.args in
-    let m = c.lent_enough in let all = moves-short a.state a.gains.now a.values.now a.care.now a.work.now
-    (sym m.ensures ∙ not-true m.result c.if-not-lent_enough.true-raw) in record { answer = all.0; gains = all.1.0; work = all.1.1.0; reported = all.1.1.1 }
+    let m = c.lent_enough in
+    let all = moves-short a.state a.gains.now a.values.now a.care.now a.work.now
+    (sym m.ensures ∙ not-true m.result c.if-not-lent_enough.true-raw) in
+    record { answer = all.0; gains = all.1.0; work = all.1.1.0; reported = all.1.1.1 }
 
 pub returns-then-not-holds_table : goal.returns-then-not-holds_table
 returns-then-not-holds_table c =
     let a = c.args in
     let m = c.lent_enough in
-    let h = c.holds_table in let all = moves-no-table a.state a.gains.now a.values.now a.care.now a.work.now
-    (sym m.ensures ∙ not-false m.result c.if-not-lent_enough.false-raw) (sym h.ensures ∙ not-true h.result c.if-not-holds_table.true-raw) in record { answer = all.0; gains = all.1.0; work = all.1.1.0; reported = all.1.1.1 }
+    let h = c.holds_table in
+    let all = moves-no-table a.state a.gains.now a.values.now a.care.now a.work.now
+    (sym m.ensures ∙ not-false m.result c.if-not-lent_enough.false-raw)
+    (sym h.ensures ∙ not-true h.result c.if-not-holds_table.true-raw) in
+    record { answer = all.0; gains = all.1.0; work = all.1.1.0; reported = all.1.1.1 }
 
 long : (k : Else-not-holds_table) → let a = k.args in enough a.values.now a.care.now a.work.now ≡ true
 long k = let m = k.lent_enough in sym m.ensures ∙ not-false m.result k.if-not-lent_enough.false-raw
@@ -40,7 +45,11 @@ overflow_mul-n c =
 
 pub returns-then-gains-n : goal.returns-then-gains-n
 returns-then-gains-n c =
-    let a = c.args in let all = moves-few a.state a.gains.now a.values.now a.care.now a.work.now (long (goal.at.returns-then-gains-n c).Else-not-holds_table) (held (goal.at.returns-then-gains-n c).Else-not-holds_table) c.if-gains-n.true in record { answer = all.0; gains = all.1.0; work = all.1.1.0; reported = all.1.1.1 }
+    let a = c.args in
+    let all = moves-few a.state a.gains.now a.values.now a.care.now a.work.now
+    (long (goal.at.returns-then-gains-n c).Else-not-holds_table)
+    (held (goal.at.returns-then-gains-n c).Else-not-holds_table) c.if-gains-n.true in
+    record { answer = all.0; gains = all.1.0; work = all.1.1.0; reported = all.1.1.1 }
 
 pub report-requires : goal.report-requires
 report-requires c =
@@ -53,5 +62,8 @@ report-requires c =
 pub returns : goal.returns
 returns c =
     let a = c.args in
-    let r = c.report in let all = moves-done a.state a.gains.now a.values.now a.care.now a.work.now (long (goal.at.returns c).Else-not-holds_table) (held (goal.at.returns c).Else-not-holds_table)
-    r.new.gains r.ensures.gains c.if-gains-n.false r.new.work r.ensures.work in record { answer = all.0; gains = all.1.0; work = all.1.1.0; reported = all.1.1.1 }
+    let r = c.report in
+    let all = moves-done a.state a.gains.now a.values.now a.care.now a.work.now
+    (long (goal.at.returns c).Else-not-holds_table) (held (goal.at.returns c).Else-not-holds_table)
+    r.new.gains r.ensures.gains c.if-gains-n.false r.new.work r.ensures.work in
+    record { answer = all.0; gains = all.1.0; work = all.1.1.0; reported = all.1.1.1 }

@@ -68,7 +68,11 @@ offset_bounds-gains-at c =
 
 pub slice_bounds-report_variable-count : goal.slice_bounds-report_variable-count
 slice_bounds-report_variable-count c =
-    omega (arith, room (goal.at.slice_bounds-report_variable-count c).In-loop-v, small (goal.at.slice_bounds-report_variable-count c).In-loop-v)
+    omega (
+      arith,
+      room (goal.at.slice_bounds-report_variable-count c).In-loop-v,
+      small (goal.at.slice_bounds-report_variable-count c).In-loop-v,
+    )
 
 pub slice_bounds-report_variable-start : goal.slice_bounds-report_variable-start
 slice_bounds-report_variable-start c =
@@ -87,7 +91,8 @@ report_variable-requires c =
       t = enough-again vs cs a.work.now l.work c.requires.t (ap length l.invariant.1.1.1 ∙ c.count_levels-levels.auto.work);
       t_2 = held-heading a.state c.requires.t_2;
       v_lt_n = (c.loop-v-test.true, omega (arith, row-length (goal.at.report_variable-requires c).In-loop-v));
-      known_value = ap (λ (x : Levels). x.counts) c.count_levels-levels.ensures.levels ∙ counted-levels a.state vs cs a.work.now c.requires.t c.requires.t_2;
+      known_value = ap (λ (x : Levels). x.counts) c.count_levels-levels.ensures.levels
+          ∙ counted-levels a.state vs cs a.work.now c.requires.t c.requires.t_2;
       present_value = c.value_of-present.ensures
           ∙ ap (λ (x : Levels). value x.answer) c.count_levels-levels.ensures.levels
           ∙ counted-cost a.state vs cs a.work.now c.requires.t c.requires.t_2;
@@ -108,7 +113,9 @@ loop-v-preserved c =
         e,
         (
           same_len_mid (n * l.v) ((n * l.v + n) - n * l.v) l.gains row r.auto.row ∙ l.invariant.1.1.0,
-          zero-still a.work.now l.work r.new.work (l.invariant.1.1.1 ∙ zeroed (goal.at.loop-v-preserved c).After-count_levels-levels) r.ensures.work ∙ sym (zeroed (goal.at.loop-v-preserved c).After-count_levels-levels),
+          zero-still a.work.now l.work r.new.work
+              (l.invariant.1.1.1 ∙ zeroed (goal.at.loop-v-preserved c).After-count_levels-levels) r.ensures.work
+              ∙ sym (zeroed (goal.at.loop-v-preserved c).After-count_levels-levels),
         ),
       ),
     )

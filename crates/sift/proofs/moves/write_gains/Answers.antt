@@ -26,8 +26,10 @@ total_of-requires c =
 
 pub gain-brought-requires : goal.gain-brought-requires
 gain-brought-requires c =
-    let p = c.loop-p.p in
-    (subst (λ (x : ℕ). x ≤ most_nodes) (sym c.total_of.ensures) (c.requires.by_index p c.loop-p-test.true), c.requires.counts_size_in_bounds.1)
+    let p = c.loop-p.p in (
+      subst (λ (x : ℕ). x ≤ most_nodes) (sym c.total_of.ensures) (c.requires.by_index p c.loop-p-test.true),
+      c.requires.counts_size_in_bounds.1,
+    )
 
 pub loop-p-preserved : goal.loop-p-preserved
 loop-p-preserved c =

@@ -12,7 +12,10 @@ returns-then-not-lent_enough c =
     let a = c.args in
     let vs = a.values.now in
     let cs = a.care.now in
-    let m = c.lent_enough in let all = pass-short a.state a.limit vs cs a.work.now (sym m.ensures ∙ not-true m.result c.if-not-lent_enough.true-raw) in record { outcome = all.0; work = all.1.0; demand = all.1.1.0; never_dearer = all.1.1.1 }
+    let m = c.lent_enough in
+    let all = pass-short a.state a.limit vs cs a.work.now
+    (sym m.ensures ∙ not-true m.result c.if-not-lent_enough.true-raw) in
+    record { outcome = all.0; work = all.1.0; demand = all.1.1.0; never_dearer = all.1.1.1 }
 
 pub returns-then-not-holds_table : goal.returns-then-not-holds_table
 returns-then-not-holds_table c =
@@ -20,8 +23,11 @@ returns-then-not-holds_table c =
     let vs = a.values.now in
     let cs = a.care.now in
     let m = c.lent_enough in
-    let h = c.holds_table in let all = pass-no-table a.state a.limit vs cs a.work.now (sym m.ensures ∙ not-false m.result c.if-not-lent_enough.false-raw)
-    (sym h.ensures ∙ not-true h.result c.if-not-holds_table.true-raw) in record { outcome = all.0; work = all.1.0; demand = all.1.1.0; never_dearer = all.1.1.1 }
+    let h = c.holds_table in
+    let all = pass-no-table a.state a.limit vs cs a.work.now
+    (sym m.ensures ∙ not-false m.result c.if-not-lent_enough.false-raw)
+    (sym h.ensures ∙ not-true h.result c.if-not-holds_table.true-raw) in
+    record { outcome = all.0; work = all.1.0; demand = all.1.1.0; never_dearer = all.1.1.1 }
 
 pub run-progress-requires : goal.run-progress-requires
 run-progress-requires c =
@@ -40,6 +46,9 @@ returns c =
     let cs = a.care.now in
     let m = c.lent_enough in
     let h = c.holds_table in
-    let r = c.run-progress in let all = pass-held a.state a.limit vs cs a.work.now (sym m.ensures ∙ not-false m.result c.if-not-lent_enough.false-raw)
+    let r = c.run-progress in
+    let all = pass-held a.state a.limit vs cs a.work.now
+    (sym m.ensures ∙ not-false m.result c.if-not-lent_enough.false-raw)
     (sym h.ensures ∙ not-false h.result c.if-not-holds_table.false-raw) r.result r.ensures.progress
-    c.reorder-left.result c.reorder-left.ensures r.new.work r.ensures.work in record { outcome = all.0; work = all.1.0; demand = all.1.1.0; never_dearer = all.1.1.1 }
+    c.reorder-left.result c.reorder-left.ensures r.new.work r.ensures.work in
+    record { outcome = all.0; work = all.1.0; demand = all.1.1.0; never_dearer = all.1.1.1 }

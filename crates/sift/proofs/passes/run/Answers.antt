@@ -27,8 +27,11 @@ loop-progress-init c =
     let vs = a.values.now in
     let cs = a.care.now in
     let known = ap (λ (x : Levels). x.counts) c.count_levels-levels.ensures.levels
-    ∙ counted-levels a.state vs cs a.work.now c.requires.t c.requires.t_2 in
-    (running-start a.state a.limit vs cs (heading (goal.at.loop-progress-init c).After-count_levels-levels) c.count_levels-levels.result.counts known _ refl, refl)
+    ∙ counted-levels a.state vs cs a.work.now c.requires.t c.requires.t_2 in (
+      running-start a.state a.limit vs cs (heading (goal.at.loop-progress-init c).After-count_levels-levels)
+          c.count_levels-levels.result.counts known _ refl,
+      refl,
+    )
 
 pub overflow_add-progress : goal.overflow_add-progress
 overflow_add-progress c =
@@ -42,7 +45,9 @@ pub returns-then-limit-progress : goal.returns-then-limit-progress
 returns-then-limit-progress c =
     let a = c.args in
     let l = c.loop-progress in record {
-      progress = running-stop a.state a.limit a.values.now a.care.now (heading (goal.at.returns-then-limit-progress c).After-count_levels-levels) l.progress l.invariant.0 (λ _. c.if-limit-progress.true);
+      progress = running-stop a.state a.limit a.values.now a.care.now
+          (heading (goal.at.returns-then-limit-progress c).After-count_levels-levels) l.progress l.invariant.0
+          (λ _. c.if-limit-progress.true);
       work = l.invariant.1 ∙ zeroed (goal.at.returns-then-limit-progress c).After-count_levels-levels;
     }
 
@@ -53,9 +58,11 @@ turn-progress-requires c =
     let cs = a.care.now in
     let l = c.loop-progress in record {
       t = enough-again vs cs a.work.now l.work c.requires.t (ap length l.invariant.1 ∙ c.count_levels-levels.auto.work);
-      t_2 = running-heading a.state a.limit vs cs (heading (goal.at.turn-progress-requires c).After-count_levels-levels) l.progress l.invariant.0;
+      t_2 = running-heading a.state a.limit vs cs (heading (goal.at.turn-progress-requires c).After-count_levels-levels)
+          l.progress l.invariant.0;
       turns_lt_n = (c.loop-progress-test.true, omega (arith, l.invariant.0.limited, c.requires.limit_bound));
-      counts_value = running-counts a.state a.limit vs cs (heading (goal.at.turn-progress-requires c).After-count_levels-levels) l.progress l.invariant.0;
+      counts_value = running-counts a.state a.limit vs cs
+          (heading (goal.at.turn-progress-requires c).After-count_levels-levels) l.progress l.invariant.0;
     }
 
 pub loop-progress-smaller : goal.loop-progress-smaller
@@ -65,7 +72,8 @@ loop-progress-smaller c =
     let r = c.turn-progress in
     let some = c.loop-progress-test.true in
     let room = c.if-limit-progress.false in
-    let e = running-less a.state a.limit a.values.now a.care.now (heading (goal.at.loop-progress-smaller c).After-count_levels-levels) l.progress l.invariant.0 some room
+    let e = running-less a.state a.limit a.values.now a.care.now
+    (heading (goal.at.loop-progress-smaller c).After-count_levels-levels) l.progress l.invariant.0 some room
     r.result r.ensures.progress in
     omega (arith, e, some)
 
@@ -76,9 +84,12 @@ loop-progress-preserved c =
     let r = c.turn-progress in
     let some = c.loop-progress-test.true in
     let room = c.if-limit-progress.false in (
-      running-next a.state a.limit a.values.now a.care.now (heading (goal.at.loop-progress-preserved c).After-count_levels-levels) l.progress l.invariant.0 some room
+      running-next a.state a.limit a.values.now a.care.now
+          (heading (goal.at.loop-progress-preserved c).After-count_levels-levels) l.progress l.invariant.0 some room
           r.result r.ensures.progress,
-      zero-still a.work.now l.work r.new.work (l.invariant.1 ∙ zeroed (goal.at.loop-progress-preserved c).After-count_levels-levels) r.ensures.work ∙ sym (zeroed (goal.at.loop-progress-preserved c).After-count_levels-levels),
+      zero-still a.work.now l.work r.new.work
+          (l.invariant.1 ∙ zeroed (goal.at.loop-progress-preserved c).After-count_levels-levels) r.ensures.work
+          ∙ sym (zeroed (goal.at.loop-progress-preserved c).After-count_levels-levels),
     )
 
 pub shape_of-work : goal.shape_of-work
@@ -89,7 +100,8 @@ pub returns : goal.returns
 returns c =
     let a = c.args in
     let l = c.loop-progress in record {
-      progress = running-stop a.state a.limit a.values.now a.care.now (heading (goal.at.returns c).After-count_levels-levels) l.progress l.invariant.0
+      progress = running-stop a.state a.limit a.values.now a.care.now
+          (heading (goal.at.returns c).After-count_levels-levels) l.progress l.invariant.0
           (λ h. absurd (omega (arith, h, c.loop-progress-test.false)));
       work = l.invariant.1 ∙ zeroed (goal.at.returns c).After-count_levels-levels;
     }

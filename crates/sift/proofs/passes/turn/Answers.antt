@@ -40,7 +40,8 @@ sift_one-found-requires c =
       t = c.requires.t;
       t_2 = current-heading a.state a.progress vs cs c.requires.t_2 some c.requires.counts_value v.result v.ensures d.result d.ensures;
       v_lt_n = current-below a.state a.progress vs cs c.requires.t_2 some c.requires.counts_value v.result v.ensures d.result d.ensures;
-      known_value = current-known a.state a.progress vs cs c.requires.t_2 some c.requires.counts_value v.result v.ensures d.result d.ensures;
+      known_value = current-known a.state a.progress vs cs c.requires.t_2 some c.requires.counts_value v.result
+          v.ensures d.result d.ensures;
     }
 
 level : (k : After-sift_one-found) → k.sift_one-found.result.best.level < k.args.state.n
@@ -77,7 +78,12 @@ overflow_add-result c =
 
 pub overflow_add-result-2 : goal.overflow_add-result-2
 overflow_add-result-2 c =
-    omega (arith, c.requires.turns_lt_n, tried (goal.at.overflow_add-result-2 c).After-sift_one-found, few (goal.at.overflow_add-result-2 c).After-fullest-v)
+    omega (
+      arith,
+      c.requires.turns_lt_n,
+      tried (goal.at.overflow_add-result-2 c).After-sift_one-found,
+      few (goal.at.overflow_add-result-2 c).After-fullest-v,
+    )
 
 pub returns : goal.returns
 returns c =
@@ -86,7 +92,8 @@ returns c =
     let d = c.reorder-current in
     let r = c.sift_one-found in
     let o = c.moved_to-after in record {
-      progress = turned a.state a.progress a.values.now a.care.now c.requires.t_2 (omega (arith, c.requires.turns_lt_n)) c.requires.counts_value
+      progress = turned a.state a.progress a.values.now a.care.now c.requires.t_2 (omega (arith, c.requires.turns_lt_n))
+          c.requires.counts_value
           v.result v.ensures d.result d.ensures r.result r.ensures.sifted o.result o.ensures;
       work = r.ensures.work;
     }

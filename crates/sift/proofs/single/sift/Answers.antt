@@ -22,7 +22,10 @@ returns-then-not-lent_enough c =
     let a = c.args in
     let vs = a.values.now in
     let cs = a.care.now in
-    let m = c.lent_enough in let all = sift-short a.state a.variable vs cs a.work.now (sym m.ensures ∙ not-true m.result c.if-not-lent_enough.true-raw) in record { outcome = all.0; work = all.1.0; demand = all.1.1.0; never_dearer = all.1.1.1 }
+    let m = c.lent_enough in
+    let all = sift-short a.state a.variable vs cs a.work.now
+    (sym m.ensures ∙ not-true m.result c.if-not-lent_enough.true-raw) in
+    record { outcome = all.0; work = all.1.0; demand = all.1.1.0; never_dearer = all.1.1.1 }
 
 pub returns-then-not-holds_table : goal.returns-then-not-holds_table
 returns-then-not-holds_table c =
@@ -30,8 +33,11 @@ returns-then-not-holds_table c =
     let vs = a.values.now in
     let cs = a.care.now in
     let m = c.lent_enough in
-    let h = c.holds_table in let all = sift-no-table a.state a.variable vs cs a.work.now (sym m.ensures ∙ not-false m.result c.if-not-lent_enough.false-raw)
-    (sym h.ensures ∙ not-true h.result c.if-not-holds_table.true-raw) in record { outcome = all.0; work = all.1.0; demand = all.1.1.0; never_dearer = all.1.1.1 }
+    let h = c.holds_table in
+    let all = sift-no-table a.state a.variable vs cs a.work.now
+    (sym m.ensures ∙ not-false m.result c.if-not-lent_enough.false-raw)
+    (sym h.ensures ∙ not-true h.result c.if-not-holds_table.true-raw) in
+    record { outcome = all.0; work = all.1.0; demand = all.1.1.0; never_dearer = all.1.1.1 }
 
 pub returns-then-n-variable : goal.returns-then-n-variable
 returns-then-n-variable c =
@@ -39,9 +45,11 @@ returns-then-n-variable c =
     let vs = a.values.now in
     let cs = a.care.now in
     let m = c.lent_enough in
-    let h = c.holds_table in let all = sift-no-variable a.state a.variable vs cs a.work.now
+    let h = c.holds_table in
+    let all = sift-no-variable a.state a.variable vs cs a.work.now
     (sym m.ensures ∙ not-false m.result c.if-not-lent_enough.false-raw)
-    (sym h.ensures ∙ not-false h.result c.if-not-holds_table.false-raw) c.if-n-variable.true in record { outcome = all.0; work = all.1.0; demand = all.1.1.0; never_dearer = all.1.1.1 }
+    (sym h.ensures ∙ not-false h.result c.if-not-holds_table.false-raw) c.if-n-variable.true in
+    record { outcome = all.0; work = all.1.0; demand = all.1.1.0; never_dearer = all.1.1.1 }
 
 long : (k : After-count_levels-levels) → let a = k.args in T (enough a.values.now a.care.now a.work.now)
 long k =
@@ -65,7 +73,9 @@ sift_one-found-requires c =
       t = enough-again vs cs a.work.now r.new.work (long (goal.at.sift_one-found-requires c).After-count_levels-levels) r.auto.work;
       t_2 = held-heading a.state (held (goal.at.sift_one-found-requires c).After-count_levels-levels);
       v_lt_n = below (goal.at.sift_one-found-requires c).After-count_levels-levels;
-      known_value = ap (λ (x : Levels). x.counts) r.ensures.levels ∙ counted-levels a.state vs cs a.work.now (long (goal.at.sift_one-found-requires c).After-count_levels-levels) (held (goal.at.sift_one-found-requires c).After-count_levels-levels);
+      known_value = ap (λ (x : Levels). x.counts) r.ensures.levels
+          ∙ counted-levels a.state vs cs a.work.now (long (goal.at.sift_one-found-requires c).After-count_levels-levels)
+          (held (goal.at.sift_one-found-requires c).After-count_levels-levels);
     }
 
 pub moved_to-after-requires : goal.moved_to-after-requires
@@ -78,7 +88,8 @@ moved_to-after-requires c =
       v_lt_n = (
         below (goal.at.moved_to-after-requires c).After-count_levels-levels,
         best-below t a.variable (order_of a.state) r.result.best
-            (sifted-best t a.variable (order_of a.state) r.result r.ensures.sifted) (below (goal.at.moved_to-after-requires c).After-count_levels-levels),
+            (sifted-best t a.variable (order_of a.state) r.result r.ensures.sifted)
+            (below (goal.at.moved_to-after-requires c).After-count_levels-levels),
       );
     }
 
@@ -88,8 +99,14 @@ returns c =
     let vs = a.values.now in
     let cs = a.care.now in
     let r = c.sift_one-found in
-    let o = c.moved_to-after in let all = sift-done a.state a.variable vs cs a.work.now (of_T (long (goal.at.returns c).After-count_levels-levels)) (of_T (held (goal.at.returns c).After-count_levels-levels)) (below (goal.at.returns c).After-count_levels-levels) r.result.best
+    let o = c.moved_to-after in
+    let all = sift-done a.state a.variable vs cs a.work.now (of_T (long (goal.at.returns c).After-count_levels-levels))
+    (of_T (held (goal.at.returns c).After-count_levels-levels)) (below (goal.at.returns c).After-count_levels-levels)
+    r.result.best
     (sifted-best (held_table a.state vs cs) a.variable (order_of a.state) r.result r.ensures.sifted) o.result o.ensures
     c.reorder-left.result c.reorder-left.ensures r.new.work
     (zero-still a.work.now c.count_levels-levels.new.work r.new.work
-    (c.count_levels-levels.ensures.work ∙ counted-work a.state vs cs a.work.now (long (goal.at.returns c).After-count_levels-levels) (held (goal.at.returns c).After-count_levels-levels)) r.ensures.work) in record { outcome = all.0; work = all.1.0; demand = all.1.1.0; never_dearer = all.1.1.1 }
+    (c.count_levels-levels.ensures.work
+    ∙ counted-work a.state vs cs a.work.now (long (goal.at.returns c).After-count_levels-levels)
+    (held (goal.at.returns c).After-count_levels-levels)) r.ensures.work) in record
+    { outcome = all.0; work = all.1.0; demand = all.1.1.0; never_dearer = all.1.1.1 }

@@ -38,7 +38,10 @@ pub total_of-nodes-requires : goal.total_of-nodes-requires
 total_of-nodes-requires c =
     let l = c.loop-p in
     let below = c.loop-p-test.true in record {
-      p_lt_most_variables = (omega (arith, below, few (goal.at.total_of-nodes-requires c).After-count_moves), omega (arith, c.requires.v_lt_n.1, c.count_moves.auto.counts));
+      p_lt_most_variables = (
+        omega (arith, below, few (goal.at.total_of-nodes-requires c).After-count_moves),
+        omega (arith, c.requires.v_lt_n.1, c.count_moves.auto.counts),
+      );
       counts_bound = (total (goal.at.total_of-nodes-requires c).After-count_moves l.p below).1;
     }
 

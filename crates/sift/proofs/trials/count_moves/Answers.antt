@@ -39,7 +39,8 @@ returns c =
     let cs = a.care.now in
     let m = c.moved_to-top in
     let u = c.put_counts in
-    let put = u.ensures ∙ counts-put c.level_of-q.result a.known a.counts.now (below-most (goal.at.returns c).After-level_of-q) c.requires.v_lt_n.1 in
+    let put = u.ensures ∙ counts-put c.level_of-q.result a.known a.counts.now
+    (below-most (goal.at.returns c).After-level_of-q) c.requires.v_lt_n.1 in
     let d = c.reorder-current in
     let r = c.try_levels in record {
       counts = counts-moved a.state vs cs c.requires.t_2 a.v c.requires.v_lt_n.0 m.result m.ensures a.known c.requires.known_value

@@ -17,7 +17,12 @@ use Rattle.swapping.proofs.exchange.link_entry.Goals as goal
 pub link_half-low-requires : goal.link_half-low-requires
 link_half-low-requires c =
     record {
-      p_lt_most_variables = (c.requires.p_lt_most_variables.0, c.requires.p_lt_most_variables.1, c.requires.p_lt_most_variables.2, omega arith);
+      p_lt_most_variables = (
+        c.requires.p_lt_most_variables.0,
+        c.requires.p_lt_most_variables.1,
+        c.requires.p_lt_most_variables.2,
+        omega arith,
+      );
       list_bound = (c.requires.list_bound.0, omega arith);
     }
 
@@ -29,7 +34,12 @@ link_half-high-requires c =
     let w : length k.new.work ≡ length a.work.now = search rules in
     let few = place-few a.len a.list.now (half_pair (lent_at a.cells.now) a.p a.q false (pair_of a.x)) (omega arith)
     k.ensures.seen in record {
-      p_lt_most_variables = (c.requires.p_lt_most_variables.0, c.requires.p_lt_most_variables.1, k.ensures.seen.seen, omega (arith, few, l));
+      p_lt_most_variables = (
+        c.requires.p_lt_most_variables.0,
+        c.requires.p_lt_most_variables.1,
+        k.ensures.seen.seen,
+        omega (arith, few, l),
+      );
       list_bound = (omega (arith, l), omega (arith, w));
     }
 

@@ -52,7 +52,12 @@ room-2 b =
 pub top_level-len-requires : goal.top_level-len-requires
 top_level-len-requires c =
     let k = room (goal.at.top_level-len-requires c).Start in record {
-      m_le_most_outputs = (c.requires.n_le_most_variables.2, c.requires.n_le_most_variables.3, omega (arith, k), omega (arith, c.requires.list_len.0, c.requires.list_len.1));
+      m_le_most_outputs = (
+        c.requires.n_le_most_variables.2,
+        c.requires.n_le_most_variables.3,
+        omega (arith, k),
+        omega (arith, c.requires.list_len.0, c.requires.list_len.1),
+      );
       m_in_bounds = omega (arith, k, c.requires.seen_in_bounds);
     }
 
@@ -102,7 +107,14 @@ next_level-next-requires c =
       );
       list_bound = (
         omega (arith, l.invariant.4, c.requires.list_len.1),
-        omega (arith, ends (goal.at.next_level-next-requires c).In-loop-q, l.invariant.5, c.top_level-len.auto.work, c.requires.seen_in_bounds, links-at),
+        omega (
+          arith,
+          ends (goal.at.next_level-next-requires c).In-loop-q,
+          l.invariant.5,
+          c.top_level-len.auto.work,
+          c.requires.seen_in_bounds,
+          links-at,
+        ),
       );
     }
 
@@ -154,5 +166,6 @@ returns c =
       entries = linked-entries (lent_at a.cells.now) a.p (map both (take a.m a.roots.now)) _ _ l.q l.len l.seen l.work
           l.entries l.at l.invariant.1 a.n e;
       work = linked-work (lent_at a.cells.now) a.p (map both (take a.m a.roots.now)) _ _ l.q l.len l.seen l.work
-          l.entries l.at l.invariant.1 a.n e a.work.now c.top_level-len.ensures.work (omega (arith, outputs (goal.at.returns c).Start, links-at));
+          l.entries l.at l.invariant.1 a.n e a.work.now c.top_level-len.ensures.work
+          (omega (arith, outputs (goal.at.returns c).Start, links-at));
     }

@@ -25,7 +25,12 @@ link_entry-len-requires c =
     let a = c.args in
     let few = turns-few (lent_at a.cells.now) a.p a.q a.seen.now a.at a.work.now l.j (search rules)
     l.invariant.1 in record {
-      p_lt_most_variables = (c.requires.p_lt_most_variables.0, c.entry_at-x.ensures.1, l.invariant.1.shows.seen, omega (arith, few, l.invariant.2, c.requires.p_lt_most_variables.2));
+      p_lt_most_variables = (
+        c.requires.p_lt_most_variables.0,
+        c.entry_at-x.ensures.1,
+        l.invariant.1.shows.seen,
+        omega (arith, few, l.invariant.2, c.requires.p_lt_most_variables.2),
+      );
       list_bound = (omega (arith, l.invariant.2, c.requires.p_lt_most_variables.3), omega (arith, l.invariant.3, c.requires.e_in_bounds.0));
     }
 
@@ -35,7 +40,8 @@ loop-j-preserved c =
     let h = c.loop-j-test.true in (
       omega (arith, h),
       turns_more (lent_at a.cells.now) a.p a.q a.seen.now a.at a.work.now c.loop-j.j
-          (omega (arith, c.requires.p_lt_most_variables.1, h)) c.entry_at-x.result c.entry_at-x.ensures.0 c.loop-j.len c.link_entry-len.result
+          (omega (arith, c.requires.p_lt_most_variables.1, h)) c.entry_at-x.result c.entry_at-x.ensures.0 c.loop-j.len
+          c.link_entry-len.result
           c.loop-j.list _ c.loop-j.marks _ c.loop-j.work _ c.loop-j.invariant.1 c.link_entry-len.ensures.seen c.link_entry-len.ensures.work,
       c.link_entry-len.auto.list ∙ c.loop-j.invariant.2,
       c.link_entry-len.auto.work ∙ c.loop-j.invariant.3,

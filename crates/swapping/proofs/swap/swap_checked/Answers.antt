@@ -38,15 +38,19 @@ returns c =
     let P = all-passed (goal.at.returns c).Start in
     let r = c.read_links-answer in
     let e = ap (λ (o : Outcome). o.state) c.swap-swapped.ensures
-    ∙ swapped-state a.state a.p a.work.now a.roots.now a.cells.now P in let all = laid-case a.state a.p a.work.now a.roots.now a.cells.now P k.result _ k.ensures.entries k.ensures.work
+    ∙ swapped-state a.state a.p a.work.now a.roots.now a.cells.now P in
+    let all = laid-case a.state a.p a.work.now a.roots.now a.cells.now P k.result _ k.ensures.entries k.ensures.work
     r.result r.ensures.answer _ _ _ r.ensures.roots r.ensures.cells r.ensures.work c.in-Done.total c.in-Done.is
-    c.with_network-after.result (c.with_network-after.ensures ∙ ap (λ (x : State). network_state x c.in-Done.total) e) in record { outcome = all.0; roots = all.1.0; cells = all.1.1.0; work = all.1.1.1 }
+    c.with_network-after.result (c.with_network-after.ensures ∙ ap (λ (x : State). network_state x c.in-Done.total) e)
+    in
+    record { outcome = all.0; roots = all.1.0; cells = all.1.1.0; work = all.1.1.1 }
 
 pub returns-in_default : goal.returns-in_default
 returns-in_default c =
     let k = c.exchanged_links-entries in
     let a = c.args in
     let r = c.read_links-answer in
-    let all = small-case a.state a.p a.work.now a.roots.now a.cells.now (all-passed (goal.at.returns-in_default c).Start) k.result _ k.ensures.entries
+    let all = small-case a.state a.p a.work.now a.roots.now a.cells.now
+    (all-passed (goal.at.returns-in_default c).Start) k.result _ k.ensures.entries
     k.ensures.work r.result r.ensures.answer _ _ _ r.ensures.roots r.ensures.cells r.ensures.work
     (sym (is-other r.result c.in_default.not-Done)) in record { outcome = all.0; roots = all.1.0; cells = all.1.1.0; work = all.1.1.1 }

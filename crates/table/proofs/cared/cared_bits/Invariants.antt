@@ -8,7 +8,8 @@ use Rattle.block.specs.Bits.{stream_bit}
 use Rattle.table.proofs.cared.cared_bits.Given as goal
 
 abbrev pub invariant-loop-w : goal.invariant-loop-w
-invariant-loop-w l = (l.total ≡ sum_below (λ (i : ℕ). digit (stream_bit l.care i)) (min (64 * l.w) l.bits)) × (l.total ≤ 64 * l.w) × (64 * l.w ≤ l.bits + 63)
+invariant-loop-w l = (l.total ≡ sum_below (λ (i : ℕ). digit (stream_bit l.care i)) (min (64 * l.w) l.bits))
+    × (l.total ≤ 64 * l.w) × (64 * l.w ≤ l.bits + 63)
 
 abbrev pub decreases-loop-w : goal.decreases-loop-w
 decreases-loop-w l = l.bits - 64 * l.w

@@ -23,7 +23,8 @@ returns-in-1 c =
     let x = c.block_byte-kind in
     let a = c.args in
     let r = c.heading_answer in
-    kind-read a.bits a.blocks a.file.now a.k (checked (goal.at.returns-in-1 c).Else-not-good_check) x.result 1 x.ensures.0 c.in-1.is r.result
+    kind-read a.bits a.blocks a.file.now a.k (checked (goal.at.returns-in-1 c).Else-not-good_check) x.result 1
+    x.ensures.0 c.in-1.is r.result
     (heading-read a.bits a.blocks a.file.now a.k r.result r.ensures)
 
 -- by the arm's number alone, whatever the arm calls
@@ -31,19 +32,22 @@ pub returns-in-2 : goal.returns-in-2
 returns-in-2 c =
     let x = c.block_byte-kind in
     let a = c.args in
-    let read = kind-read a.bits a.blocks a.file.now a.k (checked (goal.at.returns-in-2 c).Else-not-good_check) x.result 2 x.ensures.0 c.in-2.is in
+    let read = kind-read a.bits a.blocks a.file.now a.k (checked (goal.at.returns-in-2 c).Else-not-good_check) x.result
+    2 x.ensures.0 c.in-2.is in
     search (rules, read)
 
 pub returns-in-3 : goal.returns-in-3
 returns-in-3 c =
     let x = c.block_byte-kind in
     let a = c.args in
-    let read = kind-read a.bits a.blocks a.file.now a.k (checked (goal.at.returns-in-3 c).Else-not-good_check) x.result 3 x.ensures.0 c.in-3.is in
+    let read = kind-read a.bits a.blocks a.file.now a.k (checked (goal.at.returns-in-3 c).Else-not-good_check) x.result
+    3 x.ensures.0 c.in-3.is in
     search (rules, read)
 
 pub returns-in_default : goal.returns-in_default
 returns-in_default c =
     let x = c.block_byte-kind in
     let a = c.args in
-    kind-read a.bits a.blocks a.file.now a.k (checked (goal.at.returns-in_default c).Else-not-good_check) x.result x.result x.ensures.0 refl BadKind
+    kind-read a.bits a.blocks a.file.now a.k (checked (goal.at.returns-in_default c).Else-not-good_check) x.result
+    x.result x.ensures.0 refl BadKind
     (no_kind a.bits a.blocks a.file.now a.k x.result (search rules) (search rules) (search rules))

@@ -33,9 +33,16 @@ rest c =
 pub returns-then-not-unused_zero : goal.returns-then-not-unused_zero
 unfolding fields_answer
 returns-then-not-unused_zero c =
-    rw (passed (goal.at.returns-then-not-unused_zero c).Else-not-is_done, sym (rest (goal.at.returns-then-not-unused_zero c).After-unused_zero) ∙ not-true _ c.if-not-unused_zero.true-raw)
+    rw (
+      passed (goal.at.returns-then-not-unused_zero c).Else-not-is_done,
+      sym (rest (goal.at.returns-then-not-unused_zero c).After-unused_zero) ∙ not-true _ c.if-not-unused_zero.true-raw,
+    )
 
 pub returns : goal.returns
 unfolding fields_answer
 returns c =
-    rw (passed (goal.at.returns c).Else-not-is_done, sym (rest (goal.at.returns c).After-unused_zero) ∙ not-false _ c.if-not-unused_zero.false-raw)
+    rw (
+      passed (goal.at.returns c).Else-not-is_done,
+      sym (rest (goal.at.returns c).After-unused_zero)
+          ∙ not-false _ c.if-not-unused_zero.false-raw,
+    )

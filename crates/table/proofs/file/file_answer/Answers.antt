@@ -38,7 +38,12 @@ returns-then-not-whole_blocks c =
 pub returns-then-not-is_done : goal.returns-then-not-is_done
 unfolding file_answer
 returns-then-not-is_done c =
-    rw (whole (goal.at.returns-then-not-is_done c).Else-not-whole_blocks, ← heading (goal.at.returns-then-not-is_done c).After-block_answer-answer, sym c.is_done.ensures ∙ not-true _ c.if-not-is_done.true-raw)
+    rw (
+      whole (goal.at.returns-then-not-is_done c).Else-not-whole_blocks,
+      ← heading (goal.at.returns-then-not-is_done c).After-block_answer-answer,
+      sym c.is_done.ensures
+          ∙ not-true _ c.if-not-is_done.true-raw,
+    )
 
 pub streams_answer-requires : goal.streams_answer-requires
 streams_answer-requires c =

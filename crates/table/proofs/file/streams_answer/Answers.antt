@@ -21,7 +21,8 @@ blocks_for-blocks-requires c =
 pub returns-then-file-blocks : goal.returns-then-file-blocks
 returns-then-file-blocks c =
     let a = c.args in
-    wrong-count a.file.now a.n a.m c.blocks_for-blocks.result (the-blocks (goal.at.returns-then-file-blocks c).After-blocks_for-blocks) c.if-file-blocks.true
+    wrong-count a.file.now a.n a.m c.blocks_for-blocks.result
+    (the-blocks (goal.at.returns-then-file-blocks c).After-blocks_for-blocks) c.if-file-blocks.true
 
 pub blocks_answer-requires : goal.blocks_answer-requires
 blocks_answer-requires c =

@@ -72,18 +72,23 @@ few-blocks-here c =
 
 pub returns-then-values-lt-PLANE : goal.returns-then-values-lt-PLANE
 returns-then-values-lt-PLANE c =
-    let a = c.args in let all = refused a.file.now a.values.now a.care.now a.state ShortBuffer
-    (short-values a.file.now a.values.now a.care.now (omega (arith, plane-size))) refl in record { outcome = all.0; values = all.1.0; care = all.1.1 }
+    let a = c.args in
+    let all = refused a.file.now a.values.now a.care.now a.state ShortBuffer
+    (short-values a.file.now a.values.now a.care.now (omega (arith, plane-size))) refl in
+    record { outcome = all.0; values = all.1.0; care = all.1.1 }
 
 pub returns-then-care-lt-PLANE : goal.returns-then-care-lt-PLANE
 returns-then-care-lt-PLANE c =
-    let a = c.args in let all = refused a.file.now a.values.now a.care.now a.state ShortBuffer
-    (short-care a.file.now a.values.now a.care.now (omega (arith, plane-size))) refl in record { outcome = all.0; values = all.1.0; care = all.1.1 }
+    let a = c.args in
+    let all = refused a.file.now a.values.now a.care.now a.state ShortBuffer
+    (short-care a.file.now a.values.now a.care.now (omega (arith, plane-size))) refl in
+    record { outcome = all.0; values = all.1.0; care = all.1.1 }
 
 pub returns-then-not-is_done : goal.returns-then-not-is_done
 returns-then-not-is_done c =
     let x = c.file_answer-answer in
-    let a = c.args in let all = refused a.file.now a.values.now a.care.now a.state x.result
+    let a = c.args in
+    let all = refused a.file.now a.values.now a.care.now a.state x.result
     (long-planes a.file.now a.values.now a.care.now (omega (arith, plane-size)) (omega (arith, plane-size))
     ∙ sym x.ensures)
     (sym c.is_done.ensures ∙ not-true _ c.if-not-is_done.true-raw) in record { outcome = all.0; values = all.1.0; care = all.1.1 }
@@ -96,8 +101,12 @@ pub blocks_for-blocks-requires : goal.blocks_for-blocks-requires
 blocks_for-blocks-requires c =
     omega (
       arith,
-      shifted-out c.block_byte-n.result c.block_byte-m.result (few-variables (goal.at.blocks_for-blocks-requires c).After-block_byte-n) (few-results (goal.at.blocks_for-blocks-requires c).After-block_byte-m),
-      stream-small c.block_byte-n.result c.block_byte-m.result (few-variables (goal.at.blocks_for-blocks-requires c).After-block_byte-n) (few-results (goal.at.blocks_for-blocks-requires c).After-block_byte-m),
+      shifted-out c.block_byte-n.result c.block_byte-m.result
+          (few-variables (goal.at.blocks_for-blocks-requires c).After-block_byte-n)
+          (few-results (goal.at.blocks_for-blocks-requires c).After-block_byte-m),
+      stream-small c.block_byte-n.result c.block_byte-m.result
+          (few-variables (goal.at.blocks_for-blocks-requires c).After-block_byte-n)
+          (few-results (goal.at.blocks_for-blocks-requires c).After-block_byte-m),
     )
 
 pub write_plane-requires : goal.write_plane-requires
@@ -109,13 +118,17 @@ overflow_add-blocks c =
     omega (arith, few-blocks-here (goal.at.overflow_add-blocks c).After-blocks_for-blocks)
 
 pub write_plane-requires-2 : goal.write_plane-requires-2
-write_plane-requires-2 c =
-    (omega (arith, few-blocks-here (goal.at.write_plane-requires-2 c).After-blocks_for-blocks), few-blocks-here (goal.at.write_plane-requires-2 c).After-blocks_for-blocks, omega (arith, plane-size))
+write_plane-requires-2 c = (
+  omega (arith, few-blocks-here (goal.at.write_plane-requires-2 c).After-blocks_for-blocks),
+  few-blocks-here (goal.at.write_plane-requires-2 c).After-blocks_for-blocks,
+  omega (arith, plane-size),
+)
 
 pub returns : goal.returns
 returns c =
     let x = c.file_answer-answer in
-    let a = c.args in let all = loads a.file.now a.values.now a.care.now a.state x.result
+    let a = c.args in
+    let all = loads a.file.now a.values.now a.care.now a.state x.result
     (long-planes a.file.now a.values.now a.care.now (omega (arith, plane-size)) (omega (arith, plane-size))
     ∙ sym x.ensures) (passed (goal.at.returns c).Else-not-is_done)
     c.block_byte-n.result c.block_byte-m.result c.blocks_for-blocks.result c.read_order-order.result

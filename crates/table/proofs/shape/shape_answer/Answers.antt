@@ -54,20 +54,35 @@ pub returns-then-m-eq0 : goal.returns-then-m-eq0
 unfolding shape_answer
 returns-then-m-eq0 c =
     let m = c.block_byte-m in
-    rw (inputs (goal.at.returns-then-m-eq0 c).Else-n-gt-VARIABLES, no-outputs (file_at (goal.at.returns-then-m-eq0 c).Else-n-gt-VARIABLES) m.result m.ensures.0 c.if-m-eq0.true)
+    rw (
+      inputs (goal.at.returns-then-m-eq0 c).Else-n-gt-VARIABLES,
+      no-outputs (file_at (goal.at.returns-then-m-eq0 c).Else-n-gt-VARIABLES) m.result m.ensures.0 c.if-m-eq0.true,
+    )
 
 pub returns-then-m-gt-OUTPUTS : goal.returns-then-m-gt-OUTPUTS
 unfolding shape_answer
 returns-then-m-gt-OUTPUTS c =
     let m = c.block_byte-m in
-    rw (inputs (goal.at.returns-then-m-gt-OUTPUTS c).Else-n-gt-VARIABLES, many-outputs (file_at (goal.at.returns-then-m-gt-OUTPUTS c).Else-n-gt-VARIABLES) m.result m.ensures.0 c.if-m-gt-OUTPUTS.true)
+    rw (
+      inputs (goal.at.returns-then-m-gt-OUTPUTS c).Else-n-gt-VARIABLES,
+      many-outputs (file_at (goal.at.returns-then-m-gt-OUTPUTS c).Else-n-gt-VARIABLES) m.result m.ensures.0
+          c.if-m-gt-OUTPUTS.true,
+    )
 
 pub returns-then-not-is_order : goal.returns-then-not-is_order
 unfolding shape_answer
 returns-then-not-is_order c =
-    rw (inputs (goal.at.returns-then-not-is_order c).Else-n-gt-VARIABLES, outputs (goal.at.returns-then-not-is_order c).Else-m-gt-OUTPUTS, sym (order (goal.at.returns-then-not-is_order c).After-is_order) ∙ not-true _ c.if-not-is_order.true-raw)
+    rw (
+      inputs (goal.at.returns-then-not-is_order c).Else-n-gt-VARIABLES,
+      outputs (goal.at.returns-then-not-is_order c).Else-m-gt-OUTPUTS,
+      sym (order (goal.at.returns-then-not-is_order c).After-is_order) ∙ not-true _ c.if-not-is_order.true-raw,
+    )
 
 pub returns : goal.returns
 unfolding shape_answer
 returns c =
-    rw (inputs (goal.at.returns c).Else-n-gt-VARIABLES, outputs (goal.at.returns c).Else-m-gt-OUTPUTS, sym (order (goal.at.returns c).After-is_order) ∙ not-false _ c.if-not-is_order.false-raw)
+    rw (
+      inputs (goal.at.returns c).Else-n-gt-VARIABLES,
+      outputs (goal.at.returns c).Else-m-gt-OUTPUTS,
+      sym (order (goal.at.returns c).After-is_order) ∙ not-false _ c.if-not-is_order.false-raw,
+    )
