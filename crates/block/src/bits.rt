@@ -29,10 +29,8 @@ fn first_word(bytes: &[u8]) -> u64
     ensures { result ≡ word_of bytes.now 0 8 }
 {
     let mut word: u64 = 0;
-    let mut k: usize = 0;
-    while k < 8 {
+    for k in 0..8 {
         word |= (number_at(bytes, k) as u64) << (8 * k);
-        k += 1;
     }
     word
 }

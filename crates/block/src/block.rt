@@ -39,10 +39,8 @@ fn check_of(file: &[u8], k: usize) -> usize
     ensures { result ≡ check_of file.now k }
 {
     let mut total: usize = 0;
-    let mut i: usize = 0;
-    while i < CHECK_AT {
+    for i in 0..CHECK_AT {
         total += weighted(file, k, i);
-        i += 1;
     }
     total % 65521
 }

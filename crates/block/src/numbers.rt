@@ -18,12 +18,10 @@ pub fn lent_number(numbers: &[u16], i: usize) -> usize
 pub fn all_below(numbers: &[u16], limit: usize) -> bool
     ensures { result ≡ all (λ x. ltb x limit) numbers.now }
 {
-    let mut j: usize = 0;
-    while j < numbers.len() {
+    for j in 0..numbers.len() {
         if limit <= lent_number(numbers, j) {
             return false;
         }
-        j += 1;
     }
     true
 }

@@ -10,12 +10,10 @@ use crate::{CHECK_AT, CONTENT, CONTENT_AT};
 pub fn unused_between(file: &[u8], k: usize, from: usize, end: usize) -> bool
     ensures { result ≡ unused_between file.now k from end }
 {
-    let mut i = from;
-    while i < end {
+    for i in from..end {
         if block_byte(file, k, i) != 0 {
             return false;
         }
-        i += 1;
     }
     true
 }
@@ -47,12 +45,10 @@ fn unused_byte(file: &[u8], k: usize, used: usize, j: usize) -> bool
 pub fn unused_bits_zero(file: &[u8], k: usize, used: usize) -> bool
     ensures { result ≡ unused_bits_zero file.now k used }
 {
-    let mut j: usize = 0;
-    while j < CONTENT {
+    for j in 0..CONTENT {
         if !unused_byte(file, k, used, j) {
             return false;
         }
-        j += 1;
     }
     true
 }

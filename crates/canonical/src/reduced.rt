@@ -43,12 +43,10 @@ fn repeated(cells: &[u16], i: usize) -> bool
     requires { i < length cells.now / 3 }
     ensures { result ≡ has same_node (lent_node cells.now i) (lent_nodes cells.now i) }
 {
-    let mut j: usize = 0;
-    while j < i {
+    for j in 0..i {
         if same_node(cells, i, j) {
             return true;
         }
-        j += 1;
     }
     false
 }
@@ -84,15 +82,13 @@ fn nodes_reduced(cells: &[u16], count: usize, marks: &mut [u8]) -> bool
     requires { (count ≤ length cells.now / 3) × (length marks.old ≡ slots) }
     ensures { result ≡ reduced_nodes cells.now count }
 {
-    let mut i: usize = 0;
-    while i < count {
+    for i in 0..count {
         if !node_reduced(cells, i) {
             return false;
         }
         if !is_new(cells, i, marks) {
             return false;
         }
-        i += 1;
     }
     true
 }

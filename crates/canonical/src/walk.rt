@@ -78,11 +78,9 @@ fn spread_level(
         list.new marks.new }
 {
     let mut size: usize = 0;
-    let mut i: usize = 0;
-    while i < len {
+    for i in 0..len {
         let k = lent_number(seen, i);
         size = spread_one(cells, p, k, stamp, size, list, marks);
-        i += 1;
     }
     size
 }
@@ -94,11 +92,9 @@ fn spread_roots(roots: &[u16], m: usize, list: &mut [u16], marks: &mut [u8]) -> 
     ensures { Holds (firsts eqb (all_targets true (take m roots.now))) 1 result list.new marks.new }
 {
     let mut size: usize = 0;
-    let mut j: usize = 0;
-    while j < m {
+    for j in 0..m {
         let r = lent_number(roots, j);
         size = arrive_ref(r, 1, size, list, marks);
-        j += 1;
     }
     size
 }
@@ -109,8 +105,7 @@ fn standing_from(cells: &[u16], p: usize, next: usize, seen: &[u16], len: usize)
     ensures { result ≡ followed cells.now p next (take len seen.now) }
 {
     let mut after = next;
-    let mut i: usize = 0;
-    while i < len {
+    for i in 0..len {
         let k = lent_number(seen, i);
         if lent_number(cells, 3 * k) == p {
             if k != after {
@@ -118,7 +113,6 @@ fn standing_from(cells: &[u16], p: usize, next: usize, seen: &[u16], len: usize)
             }
             after += 1;
         }
-        i += 1;
     }
     Numbered::Next(after)
 }
@@ -128,10 +122,8 @@ fn copy_list(from: &[u16], len: usize, to: &mut [u16])
     requires { (len ≤ length from.now) × (len ≤ length to.old) }
     ensures { take len to.new ≡ take len from.now }
 {
-    let mut i: usize = 0;
-    while i < len {
+    for i in 0..len {
         to[i] = from[i];
-        i += 1;
     }
 }
 
@@ -173,14 +165,12 @@ fn walk(
 {
     let mut len = spread_roots(roots, m, seen, marks);
     let mut next: usize = 0;
-    let mut p: usize = 0;
-    while p < n {
+    for p in 0..n {
         let Numbered::Next(after) = standing_from(cells, p, next, seen, len) else {
             return false;
         };
         next = after;
         len = next_level(cells, p, len, seen, below, marks);
-        p += 1;
     }
     next == marks.len()
 }

@@ -15,14 +15,12 @@ fn ends_within(n: usize, entries: [usize; VARIABLES], at: usize, end: usize) -> 
     ensures { result ≡ leb (links_end at (take n entries)) end }
 {
     let mut room = end - at;
-    let mut p = 0;
-    while p < n {
+    for p in 0..n {
         let pairs = entries[p];
         if room / 4 < pairs {
             return false;
         }
         room -= 4 * pairs;
-        p += 1;
     }
     true
 }
@@ -60,12 +58,10 @@ pub(crate) fn differing_pairs(work: &[u8], at: usize, pairs: usize) -> usize
     ensures { result ≡ differing_pairs work.now at pairs }
 {
     let mut count = 0;
-    let mut e = 0;
-    while e < pairs {
+    for e in 0..pairs {
         if pair_differs(work, at + 4 * e) {
             count += 1;
         }
-        e += 1;
     }
     count
 }
@@ -82,12 +78,10 @@ pub(crate) fn level_counts(
 {
     let mut counts = [0usize; VARIABLES];
     let mut at = LINKS + 2 * m;
-    let mut p = 0;
-    while p < n {
+    for p in 0..n {
         let pairs = entries[p];
         counts[p] = differing_pairs(work, at, pairs);
         at += 4 * pairs;
-        p += 1;
     }
     counts
 }
@@ -98,10 +92,8 @@ pub(crate) fn total(counts: [usize; VARIABLES]) -> usize
     ensures { result ≡ sum ◌+◌ 0 counts }
 {
     let mut cells = 0;
-    let mut p = 0;
-    while p < VARIABLES {
+    for p in 0..VARIABLES {
         cells += counts[p];
-        p += 1;
     }
     cells
 }

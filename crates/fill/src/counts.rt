@@ -13,10 +13,8 @@ pub(crate) fn write_counts(p: usize, levels: [usize; VARIABLES], counts: &mut [u
     ensures { counts.new ≡ splice counts.old (most_variables * p) levels }
 {
     let at = VARIABLES * p;
-    let mut l = 0;
-    while l < VARIABLES {
+    for l in 0..VARIABLES {
         counts[at + l] = levels[l];
-        l += 1;
     }
 }
 

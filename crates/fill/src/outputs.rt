@@ -21,10 +21,8 @@ pub(crate) fn zero(from: usize, count: usize, l: &mut [u8])
     requires { from + count ≤ length l.old }
     ensures { l.new ≡ splice l.old from (replicate count 0) }
 {
-    let mut j = 0;
-    while j < count {
+    for j in 0..count {
         l[from + j] = 0;
-        j += 1;
     }
 }
 
@@ -72,11 +70,9 @@ pub(crate) fn link_outputs(
         ≡ written (level_parts (width n) []
         (map (gathered_part values.now care.now rows n) (up_to m))) 0 links_at work.old }
 {
-    let mut j = 0;
     let mut k = 0;
-    while j < m {
+    for j in 0..m {
         k = link_output(n, j, k, values, care, rows, work);
-        j += 1;
     }
     k
 }

@@ -43,12 +43,10 @@ fn nodes_good(cells: &[u16], count: usize, n: usize) -> bool
     requires { count ≤ length cells.now / 3 }
     ensures { result ≡ all (node_good true n (lent_cells count cells.now)) (lent_cells count cells.now).nodes }
 {
-    let mut i: usize = 0;
-    while i < count {
+    for i in 0..count {
         if !node_good(cells, count, n, i) {
             return false;
         }
-        i += 1;
     }
     true
 }
@@ -59,12 +57,10 @@ fn roots_good(cells: &[u16], count: usize, roots: &[u16], m: usize) -> bool
     ensures { result ≡ all (λ j. refers true (lent_cells count cells.now) (number_in roots.now j)) (up_to m) }
 {
     let most = count + count + 1;
-    let mut j: usize = 0;
-    while j < m {
+    for j in 0..m {
         if most < lent_number(roots, j) {
             return false;
         }
-        j += 1;
     }
     true
 }

@@ -32,10 +32,8 @@ pub(crate) fn level_bits(order: &[usize; VARIABLES], n: usize, row: usize) -> us
     ensures { result ≡ packed n (row_under n (take n order.now) row) }
 {
     let mut bits: usize = 0;
-    let mut p: usize = 0;
-    while p < n {
+    for p in 0..n {
         bits += bit_under(order, n, row, p) << p;
-        p += 1;
     }
     bits
 }
@@ -99,12 +97,10 @@ pub(crate) fn outputs(
 {
     let bits = level_bits(&order, n, row);
     let mut total: usize = 0;
-    let mut j: usize = 0;
-    while j < m {
+    for j in 0..m {
         if follow(cells, count, n, bits, lent_number(roots, j)) {
             total += 1 << j;
         }
-        j += 1;
     }
     total
 }

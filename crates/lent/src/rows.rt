@@ -30,11 +30,9 @@ fn write_answers(
         ≡ map (λ row. packed m (output_at n count order cells.now row roots.now)) rows.now
         ++ drop (length rows.now) answers.old }
 {
-    let mut i: usize = 0;
-    while i < rows.len() {
+    for i in 0..rows.len() {
         let row = lent_number(rows, i);
         answers[i] = outputs(cells, count, roots, m, order, n, row) as u16;
-        i += 1;
     }
 }
 

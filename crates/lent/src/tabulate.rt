@@ -35,12 +35,10 @@ fn value_byte(state: State, roots: &[u16], cells: &[u16], i: usize) -> u8
     ensures { result ≡ plane_byte (λ x. x.value) (lent_table state roots.now cells.now) i }
 {
     let mut byte: u8 = 0;
-    let mut b: usize = 0;
-    while b < 8 {
+    for b in 0..8 {
         if value_bit(state, roots, cells, 8 * i + b) {
             byte |= 1u8 << b;
         }
-        b += 1;
     }
     byte
 }
@@ -71,11 +69,9 @@ fn write_table(state: State, roots: &[u16], cells: &[u16], values: &mut [u8], ca
         ≡ over (plane_byte (λ x. x.care) (lent_table state roots.now cells.now)) plane_size care.old }
 {
     let end = state.m << state.n;
-    let mut i: usize = 0;
-    while i < PLANE {
+    for i in 0..PLANE {
         values[i] = value_byte(state, roots, cells, i);
         care[i] = ones_byte(end, i);
-        i += 1;
     }
 }
 

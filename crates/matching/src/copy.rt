@@ -7,9 +7,7 @@ pub(crate) fn copy_to(x: &[u8], l: &mut [u8], k: usize)
     requires { k + length x.now ≤ length l.old }
     ensures { l.new ≡ splice l.old k x.now }
 {
-    let mut j = 0;
-    while j < x.len() {
+    for j in 0..x.len() {
         l[k + j] = x[j];
-        j += 1;
     }
 }

@@ -59,14 +59,12 @@ fn exchange_blocks(q: usize, plane: &mut [u8])
         ≡ splice (splice plane.old q (take q (drop (2 * q) plane.old))) (2 * q)
         (take q (drop q plane.old)) }
 {
-    let mut j = 0;
-    while j < q {
+    for j in 0..q {
         let a = q + j;
         let b = 2 * q + j;
         let x = plane[a];
         plane[a] = plane[b];
         plane[b] = x;
-        j += 1;
     }
 }
 
@@ -98,11 +96,9 @@ pub(crate) fn exchange_parts(d: usize, from: usize, count: usize, work: &mut [u8
 {
     let w = width_of(d + 2);
     let planes = 2 * count;
-    let mut i = 0;
-    while i < planes {
+    for i in 0..planes {
         let a = from + i * w;
         let b = a + w;
         exchange_plane(d, &mut work[a..b]);
-        i += 1;
     }
 }

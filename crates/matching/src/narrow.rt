@@ -15,9 +15,8 @@ pub(crate) fn first_word(w: usize, f: u64, c: u64, region: &[u8], k: usize) -> u
     requires word_size_in_bounds { k * (w + w) + word_size ≤ length region.now }
     ensures { result ≡ found_link w 0 (part_of w f c) (chunks (w + w) k region.now) }
 {
-    let mut e = 0;
     let mut a = 0;
-    while e < k {
+    for e in 0..k {
         let both = c & eight_bytes(region, a + w);
         let differ = (f ^ eight_bytes(region, a)) & both;
         if differ == 0 {
@@ -27,7 +26,6 @@ pub(crate) fn first_word(w: usize, f: u64, c: u64, region: &[u8], k: usize) -> u
             return 2 * (e + 1) + 1;
         }
         a += w + w;
-        e += 1;
     }
     0
 }

@@ -107,13 +107,11 @@ pub(crate) fn narrow_level(
         work.old }
 {
     let v = width_of(d + 1);
-    let mut e = 0;
     let mut k = 0;
-    while e < count {
+    for e in 0..count {
         let a = from + e * (v + v);
         let l = links + 4 * e;
         k = link_narrow(d, a, to, k, l, work);
-        e += 1;
     }
     k
 }

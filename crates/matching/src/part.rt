@@ -11,12 +11,10 @@ pub(crate) fn always(v: bool, w: usize, f: &[u8]) -> bool
     requires { w + w ≤ length f.now }
     ensures { result ≡ always_part v w f.now }
 {
-    let mut j = 0;
-    while j < w {
+    for j in 0..w {
         if !always_byte(v, f[j], f[w + j]) {
             return false;
         }
-        j += 1;
     }
     true
 }
@@ -27,12 +25,10 @@ pub(crate) fn agree(i: bool, w: usize, f: &[u8], g: &[u8]) -> bool
     requires w_in_bounds_2 { w + w ≤ length g.now }
     ensures { result ≡ agree_part i w f.now g.now }
 {
-    let mut j = 0;
-    while j < w {
+    for j in 0..w {
         if !agree_byte(i, f[j], f[w + j], g[j], g[w + j]) {
             return false;
         }
-        j += 1;
     }
     true
 }
@@ -61,10 +57,8 @@ pub(crate) fn merge(i: bool, w: usize, f: &[u8], g: &mut [u8])
     requires g_len { length g.old ≡ w + w }
     ensures { g.new ≡ merge_part i w f.now g.old }
 {
-    let mut j = 0;
-    while j < w {
+    for j in 0..w {
         merge_at(i, w, j, f, g);
-        j += 1;
     }
 }
 

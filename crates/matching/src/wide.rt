@@ -37,15 +37,13 @@ pub(crate) fn first_words(w: usize, f: &[u8], region: &[u8], k: usize) -> usize
     requires f_len { (length f.now ≡ w + w) × (k * (w + w) ≤ length region.now) }
     ensures { result ≡ found_link w 0 f.now (chunks (w + w) k region.now) }
 {
-    let mut e = 0;
     let mut a = 0;
-    while e < k {
+    for e in 0..k {
         let found = agree_words(w, f, region, a);
         if 0 < found {
             return 2 * e + found;
         }
         a += w + w;
-        e += 1;
     }
     0
 }

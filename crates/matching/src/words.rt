@@ -42,11 +42,9 @@ pub(crate) fn put_word(w: usize, x: u64, s: &mut [u8], a: usize)
     ensures { s.new ≡ splice s.old a (bytes_of w x) }
 {
     let mut rest = x;
-    let mut j = 0;
-    while j < w {
+    for j in 0..w {
         s[a + j] = (rest % 256) as u8;
         rest = rest >> 8;
-        j += 1;
     }
 }
 

@@ -68,11 +68,9 @@ fn read_level(
     ensures { made work.new cells.new result ≡ level_made p below i e (made work.old cells.old base) }
 {
     let mut next = base;
-    let mut j: usize = 0;
-    while j < e {
+    for j in 0..e {
         let at = i + 4 * j;
         next = read_entry(p, work, at, below, next, cells);
-        j += 1;
     }
     next
 }
@@ -83,11 +81,9 @@ pub(crate) fn links_end(n: usize, m: usize, entries: [usize; VARIABLES]) -> usiz
     ensures { result ≡ level_at m entries n }
 {
     let mut end = LINKS + 2 * m;
-    let mut p: usize = 0;
-    while p < n {
+    for p in 0..n {
         let e = entries[p];
         end += 4 * e;
-        p += 1;
     }
     end
 }

@@ -27,10 +27,8 @@ pub(crate) fn write_roots(work: &[u8], m: usize, below: usize, roots: &mut [u16]
     requires { (below ≤ work_size) × (roots_size ≤ length roots.old) }
     ensures { roots.new ≡ over (root_at work.now m below) roots_size roots.old }
 {
-    let mut j: usize = 0;
-    while j < ROOTS {
+    for j in 0..ROOTS {
         let r = root_of(work, m, below, j);
         roots[j] = r as u16;
-        j += 1;
     }
 }

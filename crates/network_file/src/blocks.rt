@@ -43,10 +43,8 @@ fn write_content(state: State, roots: &[u16], cells: &[u16], k: usize, file: &mu
         ≡ over (file_byte state roots.now cells.now) (block_size * k + check_at) file.old }
 {
     let mut total: usize = 0;
-    let mut i: usize = 0;
-    while i < CHECK_AT {
+    for i in 0..CHECK_AT {
         total += write_byte(state, roots, cells, k, i, file);
-        i += 1;
     }
     total
 }
@@ -84,9 +82,7 @@ pub(crate) fn write_blocks(state: State, roots: &[u16], cells: &[u16], file: &mu
         file.old }
 {
     let blocks = blocks_for(state.count);
-    let mut k: usize = 0;
-    while k <= blocks {
+    for k in 0..=blocks {
         write_block(state, roots, cells, k, file);
-        k += 1;
     }
 }

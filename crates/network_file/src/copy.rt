@@ -13,10 +13,8 @@ pub(crate) fn copy_roots(file: &[u8], roots: &mut [u16])
     requires { roots_size ≤ length roots.old }
     ensures { roots.new ≡ over (file_root file.now) roots_size roots.old }
 {
-    let mut j: usize = 0;
-    while j < ROOTS {
+    for j in 0..ROOTS {
         roots[j] = file_root(file, j) as u16;
-        j += 1;
     }
 }
 
@@ -26,9 +24,7 @@ pub(crate) fn copy_cells(file: &[u8], count: usize, cells: &mut [u16])
     ensures { cells.new ≡ over (cell_number file.now) (3 * count) cells.old }
 {
     let end = 3 * count;
-    let mut x: usize = 0;
-    while x < end {
+    for x in 0..end {
         cells[x] = cell_number(file, x) as u16;
-        x += 1;
     }
 }

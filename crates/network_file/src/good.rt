@@ -46,12 +46,10 @@ fn nodes_good(file: &[u8], count: usize, n: usize) -> bool
     ensures { result ≡ all (node_good true n (cells_by count (cell_number file.now)))
         (cells_by count (cell_number file.now)).nodes }
 {
-    let mut i: usize = 0;
-    while i < count {
+    for i in 0..count {
         if !node_good(file, count, n, i) {
             return false;
         }
-        i += 1;
     }
     true
 }
@@ -62,12 +60,10 @@ fn roots_good(file: &[u8], count: usize, m: usize) -> bool
     ensures { result ≡ all (λ j. refers true (cells_by count (cell_number file.now)) (file_root file.now j)) (up_to m) }
 {
     let most = count + count + 1;
-    let mut j: usize = 0;
-    while j < m {
+    for j in 0..m {
         if most < file_root(file, j) {
             return false;
         }
-        j += 1;
     }
     true
 }

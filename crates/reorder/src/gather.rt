@@ -72,13 +72,11 @@ fn gather_bytes(
 {
     let mut v: u8 = 0;
     let mut c: u8 = 0;
-    let mut b: usize = 0;
-    while b < k {
+    for b in 0..k {
         let row = map[8 * i + b] as usize;
         let bit = gather_bit(values, care, base + row, limit);
         v |= bit.values << b;
         c |= bit.care << b;
-        b += 1;
     }
     Gathered { values: v, care: c }
 }
@@ -95,12 +93,10 @@ fn gather(values: &[u8], care: &[u8], base: usize, map: &[u16], n: usize, part: 
     let limit = shorter(values, care);
     let w = width_of(n);
     let k = rows_in(n);
-    let mut i: usize = 0;
-    while i < w {
+    for i in 0..w {
         let bytes = gather_bytes(values, care, base, map, i, k, limit);
         part[i] = bytes.values;
         part[w + i] = bytes.care;
-        i += 1;
     }
 }
 

@@ -22,11 +22,9 @@ fn shares(order: [usize; VARIABLES], n: usize) -> [u16; VARIABLES]
     ensures { result ≡ row_shares n order }
 {
     let mut shares = [0u16; VARIABLES];
-    let mut v: usize = 0;
-    while v < n {
+    for v in 0..n {
         let l = level_bit(n, level_of(order, n, v));
         shares[l] += 1u16 << (n - 1 - v);
-        v += 1;
     }
     shares
 }
@@ -38,10 +36,8 @@ fn double(map: &mut [u16], count: usize, share: u16)
         ≡ take count map.old
         ++ (each (λ s. get_or map.old s 0 + share) (up_to count) ++ drop (count + count) map.old) }
 {
-    let mut s: usize = 0;
-    while s < count {
+    for s in 0..count {
         map[count + s] = map[s] + share;
-        s += 1;
     }
 }
 
@@ -54,10 +50,8 @@ pub fn row_map(order: [usize; VARIABLES], n: usize) -> [u16; ROWS]
         return map;
     }
     let shares = shares(order, n);
-    let mut l: usize = 0;
-    while l < n {
+    for l in 0..n {
         double(&mut map, 1 << l, shares[l]);
-        l += 1;
     }
     map
 }

@@ -26,12 +26,10 @@ fn care_byte(counts: &[u32], least: u32, n: usize, end: usize, i: usize) -> u8
     ensures { result ≡ counted_byte counts.now least n end i }
 {
     let mut byte: u8 = 0;
-    let mut b: usize = 0;
-    while b < 8 {
+    for b in 0..8 {
         if care_bit(counts, least, n, end, 8 * i + b) {
             byte |= 1u8 << b;
         }
-        b += 1;
     }
     byte
 }
@@ -41,9 +39,7 @@ pub(crate) fn write_care(counts: &[u32], least: u32, n: usize, end: usize, care:
     requires { (n ≤ most_variables) × (plane_size ≤ length care.old) }
     ensures { care.new ≡ over (counted_byte counts.now least n end) plane_size care.old }
 {
-    let mut i: usize = 0;
-    while i < PLANE {
+    for i in 0..PLANE {
         care[i] = care_byte(counts, least, n, end, i);
-        i += 1;
     }
 }

@@ -28,10 +28,8 @@ fn sum_of(counts: &[u32], end: usize) -> usize
     ensures { result ≡ sum_below (λ i. get_or counts.now i 0) end }
 {
     let mut sum: usize = 0;
-    let mut i: usize = 0;
-    while i < end {
+    for i in 0..end {
         sum += lent_count(counts, i);
-        i += 1;
     }
     sum
 }
@@ -55,10 +53,8 @@ pub(crate) fn count_rows(rows: &[u16], counts: &mut [u32])
     ensures { counts.new
         ≡ over (seen rows.now counts.old) (length counts.old) counts.old }
 {
-    let mut j: usize = 0;
-    while j < rows.len() {
+    for j in 0..rows.len() {
         let row = lent_number(rows, j);
         counts[row] = counts[row] + 1;
-        j += 1;
     }
 }

@@ -12,10 +12,8 @@ pub(crate) fn counts_of(counts: &[usize], p: usize) -> [usize; VARIABLES]
     ensures { result ≡ counts_of p counts.now }
 {
     let mut read = [0usize; VARIABLES];
-    let mut l: usize = 0;
-    while l < VARIABLES {
+    for l in 0..VARIABLES {
         read[l] = counts[VARIABLES * p + l];
-        l += 1;
     }
     read
 }
@@ -27,10 +25,8 @@ pub(crate) fn total_of(counts: &[usize], p: usize) -> usize
     ensures { result ≡ sum ◌+◌ 0 (counts_of p counts.now) }
 {
     let mut total: usize = 0;
-    let mut l: usize = 0;
-    while l < VARIABLES {
+    for l in 0..VARIABLES {
         total += counts[VARIABLES * p + l];
-        l += 1;
     }
     total
 }

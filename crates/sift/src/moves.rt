@@ -36,11 +36,9 @@ fn write_gains(row: &mut [i32], n: usize, present: usize, counts: &[usize])
     requires by_index { (p : ℕ) → p < n → sum ◌+◌ 0 (counts_of p counts.now) ≤ most_nodes }
     ensures { row.new ≡ over (counts_gain present counts.now) n row.old }
 {
-    let mut p: usize = 0;
-    while p < n {
+    for p in 0..n {
         let brought = gain(total_of(counts, p), present);
         row[p] = brought;
-        p += 1;
     }
 }
 
@@ -84,8 +82,7 @@ fn report(state: State, gains: &mut [i32], values: &[u8], care: &[u8], work: &mu
     let answer = levels.answer;
     let present = value_of(answer);
     let n = state.n;
-    let mut v: usize = 0;
-    while v < n {
+    for v in 0..n {
         let at = n * v;
         let end = at + n;
         report_variable(
@@ -98,7 +95,6 @@ fn report(state: State, gains: &mut [i32], values: &[u8], care: &[u8], work: &mu
             care,
             work,
         );
-        v += 1;
     }
 }
 

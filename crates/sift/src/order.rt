@@ -46,10 +46,8 @@ pub(crate) fn moved_to(
 {
     let q = level_of(order, n, v);
     let mut after = order;
-    let mut i: usize = 0;
-    while i < n {
+    for i in 0..n {
         after[i] = moved_entry(order, v, q, p, i);
-        i += 1;
     }
     after
 }

@@ -129,11 +129,9 @@ fn best_level(
         cost: 0,
         tried: 0,
     };
-    let mut p: usize = 0;
-    while p < state.n {
+    for p in 0..state.n {
         let nodes = total_of(counts, p);
         best = try_level(best, p, nodes, order[p] == v);
-        p += 1;
     }
     best
 }

@@ -94,11 +94,9 @@ fn link_pairs(
         (links_from [] (half_pairs (lent_at cells.now) p q (pairs_in e seen.now))) }
 {
     let mut len: usize = 0;
-    let mut j: usize = 0;
-    while j < e {
+    for j in 0..e {
         let x = entry_at(seen, j);
         len = link_entry(cells, p, q, x, list, len, marks, work, at + 4 * j);
-        j += 1;
     }
     len
 }
@@ -117,13 +115,11 @@ fn link_roots(
     ensures work { work.new ≡ put_links work.old links_at (links_from [] (map both (take m roots.now))) }
 {
     let mut len: usize = 0;
-    let mut j: usize = 0;
-    while j < m {
+    for j in 0..m {
         let r = lent_number(roots, j);
         let placed = place(joined(r, r), list, len, marks);
         put_link(work, LINKS + 2 * j, placed.link);
         len = placed.len;
-        j += 1;
     }
     len
 }
@@ -133,10 +129,8 @@ fn copy_pairs(from: &[u32], len: usize, to: &mut [u32])
     requires { (len ≤ length from.now) × (len ≤ length to.old) }
     ensures { take len to.new ≡ take len from.now }
 {
-    let mut i: usize = 0;
-    while i < len {
+    for i in 0..len {
         to[i] = from[i];
-        i += 1;
     }
 }
 
@@ -197,13 +191,11 @@ fn link_levels(
     let mut entries = [0usize; VARIABLES];
     let mut len = top_level(roots, m, seen, work);
     let mut at = LINKS + 2 * m;
-    let mut q: usize = 0;
-    while q < n {
+    for q in 0..n {
         let next = next_level(cells, p, q, seen, len, list, work, at);
         entries[q] = len;
         at += 4 * len;
         len = next;
-        q += 1;
     }
     entries
 }

@@ -72,12 +72,10 @@ fn search_entry(x: usize, o: usize, list: &[u32], len: usize) -> usize
     requires { (pair_of o ≡ opposite_pair true (pair_of x)) × (len ≤ length list.now) × T (distinct same_class (pairs_in len list.now)) }
     ensures { result ≡ index same_class (pair_of x) (pairs_in len list.now) }
 {
-    let mut i: usize = 0;
-    while i < len {
+    for i in 0..len {
         if is_alike(list, i, x, o) {
             return i;
         }
-        i += 1;
     }
     len
 }

@@ -35,10 +35,8 @@ fn write_plane(file: &[u8], first: usize, blocks: usize, plane: &mut [u8])
     requires { (first ≤ 2 * most_blocks) × (blocks ≤ most_blocks) × (plane_size ≤ length plane.old) }
     ensures { plane.new ≡ over (stream_byte file.now first blocks) plane_size plane.old }
 {
-    let mut i: usize = 0;
-    while i < PLANE {
+    for i in 0..PLANE {
         plane[i] = stream_byte(file, first, blocks, i);
-        i += 1;
     }
 }
 

@@ -14,12 +14,10 @@ fn repeated(order: [usize; VARIABLES], n: usize, i: usize) -> bool
     ensures { result ≡ has eqb (get_or order i 0) (drop (suc i) (take n order)) }
 {
     let v = order[i];
-    let mut j = i + 1;
-    while j < n {
+    for j in i + 1..n {
         if v == order[j] {
             return true;
         }
-        j += 1;
     }
     false
 }
@@ -29,15 +27,13 @@ pub(crate) fn is_order(order: [usize; VARIABLES], n: usize) -> bool
     requires { n ≤ most_variables }
     ensures { result ≡ is_order n (take n order) }
 {
-    let mut i: usize = 0;
-    while i < n {
+    for i in 0..n {
         if n <= order[i] {
             return false;
         }
         if repeated(order, n, i) {
             return false;
         }
-        i += 1;
     }
     true
 }
@@ -55,10 +51,8 @@ pub fn read_order(file: &[u8], n: usize) -> [usize; VARIABLES]
     ensures { result ≡ map (λ p. cond (ltb p n) (byte file.now 0 (6 + p)) 0) (up_to most_variables) }
 {
     let mut order = [0usize; VARIABLES];
-    let mut p: usize = 0;
-    while p < VARIABLES {
+    for p in 0..VARIABLES {
         order[p] = order_entry(file, n, p);
-        p += 1;
     }
     order
 }

@@ -36,14 +36,12 @@ fn put_cells(out: &mut [u8], at: usize, count: usize, cells: &[u16]) -> usize
     ensures { Written out.old out.new at result
         (in_turn (cell_line cells.now) (min count (length cells.now / 3))) }
 {
-    let mut i: usize = 0;
     let mut next = at;
-    while i < count {
+    for i in 0..count {
         if cells.len() / 3 <= i {
             return next;
         }
         next = put_cell(out, next, cells, i);
-        i += 1;
     }
     next
 }
@@ -64,11 +62,9 @@ fn put_roots(out: &mut [u8], at: usize, m: usize, roots: &[u16]) -> usize
     requires { at ≤ length out.old }
     ensures { Written out.old out.new at result (in_turn (root_line roots.now) m) }
 {
-    let mut j: usize = 0;
     let mut next = at;
-    while j < m {
+    for j in 0..m {
         next = put_root(out, next, roots, j);
-        j += 1;
     }
     next
 }

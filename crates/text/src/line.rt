@@ -20,11 +20,9 @@ fn put_entries(out: &mut [u8], at: usize, n: usize, order: [usize; VARIABLES]) -
     requires { (at ≤ length out.old) × (n ≤ most_variables) }
     ensures { Written out.old out.new at result (in_turn (λ i. spaced (get_or order i 0)) n) }
 {
-    let mut i: usize = 0;
     let mut next = at;
-    while i < n {
+    for i in 0..n {
         next = put_number(out, next, order[i]);
-        i += 1;
     }
     next
 }

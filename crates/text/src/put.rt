@@ -28,11 +28,9 @@ pub(crate) fn put_keyword(out: &mut [u8], at: usize, word: &[u8]) -> usize
     requires { at ≤ length out.old }
     ensures { Written out.old out.new at result word.now }
 {
-    let mut i: usize = 0;
     let mut next = at;
-    while i < word.len() {
+    for i in 0..word.len() {
         next = put_byte(out, next, word[i]);
-        i += 1;
     }
     next
 }

@@ -40,10 +40,8 @@ fn read_order(words: &[u64]) -> [usize; VARIABLES]
     ensures { result ≡ take most_variables (drop order_at words.now) }
 {
     let mut order = [0usize; VARIABLES];
-    let mut p: usize = 0;
-    while p < VARIABLES {
+    for p in 0..VARIABLES {
         order[p] = words[ORDER + p] as usize;
-        p += 1;
     }
     order
 }
@@ -69,10 +67,8 @@ fn write_words(numbers: &[usize], words: &mut [u64], at: usize)
     requires { (at + length numbers.now ≤ state_words) × (state_words ≤ length words.old) }
     ensures { words.new ≡ paste words.old at numbers.now (length numbers.now) }
 {
-    let mut i: usize = 0;
-    while i < numbers.len() {
+    for i in 0..numbers.len() {
         words[at + i] = numbers[i] as u64;
-        i += 1;
     }
 }
 

@@ -7,6 +7,3 @@ use Rattle.block.proofs.bits.first_word.Given as goal
 
 abbrev pub invariant-loop-k : goal.invariant-loop-k
 invariant-loop-k l = (l.k ≤ 8) × (l.word ≡ word_of l.bytes 0 l.k) × (l.word < 2 ^ (8 * l.k))
-
-abbrev pub decreases-loop-k : goal.decreases-loop-k
-decreases-loop-k l = 8 - l.k

@@ -8,6 +8,3 @@ use Rattle.block.proofs.block.check_of.Given as goal
 
 abbrev pub invariant-loop-i : goal.invariant-loop-i
 invariant-loop-i l = (l.i ≤ check_at) × (l.total ≡ sum_below (λ j. suc j * byte l.file l.k j) l.i) × (l.total ≤ check_at * 255 * l.i)
-
-abbrev pub decreases-loop-i : goal.decreases-loop-i
-decreases-loop-i l = check_at - l.i

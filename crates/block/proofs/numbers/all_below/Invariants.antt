@@ -10,6 +10,3 @@ use Rattle.block.proofs.numbers.all_below.Given as goal
 
 abbrev pub invariant-loop-j : goal.invariant-loop-j
 invariant-loop-j l = (l.j ≤ length l.numbers) × (all (below l.limit l.numbers) (up_to l.j) ≡ true)
-
-abbrev pub decreases-loop-j : goal.decreases-loop-j
-decreases-loop-j l = length l.numbers - l.j

@@ -13,6 +13,3 @@ is_zero file k from i = eqb (byte file k (from + i)) 0
 
 abbrev pub invariant-loop-i : goal.invariant-loop-i
 invariant-loop-i l = (l.from ≤ l.i) × (l.i - l.from ≤ l.end - l.from) × T (all (is_zero l.file l.k l.from) (up_to (l.i - l.from)))
-
-abbrev pub decreases-loop-i : goal.decreases-loop-i
-decreases-loop-i l = l.end - l.i

@@ -9,6 +9,3 @@ use Rattle.block.proofs.unused.unused_bits_zero.Given as goal
 
 abbrev pub invariant-loop-j : goal.invariant-loop-j
 invariant-loop-j l = (l.j ≤ content_size) × T (all (unused_byte_zero l.file l.k l.used) (up_to l.j))
-
-abbrev pub decreases-loop-j : goal.decreases-loop-j
-decreases-loop-j l = content_size - l.j

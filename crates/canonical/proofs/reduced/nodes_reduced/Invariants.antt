@@ -11,6 +11,3 @@ use Rattle.canonical.proofs.reduced.nodes_reduced.Given as goal
 abbrev pub invariant-loop-i : goal.invariant-loop-i
 invariant-loop-i l = (l.i ≤ l.count) × (all (reduced_at l.cells) (up_to l.i) ≡ true)
     × (all (is_new l.cells) (up_to l.i) ≡ true) × Slotted l.cells l.i l.marks
-
-abbrev pub decreases-loop-i : goal.decreases-loop-i
-decreases-loop-i l = l.count - l.i

@@ -11,6 +11,3 @@ use Rattle.canonical.proofs.reduced.repeated.Given as goal
 
 abbrev pub invariant-loop-j : goal.invariant-loop-j
 invariant-loop-j l = (l.j ≤ l.i) × (has same_node (lent_node l.cells l.i) (lent_nodes l.cells l.j) ≡ false)
-
-abbrev pub decreases-loop-j : goal.decreases-loop-j
-decreases-loop-j l = l.i - l.j

@@ -13,6 +13,3 @@ invariant-loop-i l = (l.i ≤ l.len)
     × Holds (firsts eqb (lent_spread l.cells l.p (take l.i l.seen))) l.stamp l.size l.list l.marks
     × (length l.list ≡ length l.initial.list)
     × (length l.marks ≡ length l.initial.marks)
-
-abbrev pub decreases-loop-i : goal.decreases-loop-i
-decreases-loop-i l = l.len - l.i

@@ -14,6 +14,3 @@ abbrev pub invariant-loop-j : goal.invariant-loop-j
 invariant-loop-j l = (l.j ≤ l.m) × Holds (firsts eqb (all_targets true (take l.j l.roots))) 1 l.size l.list l.marks
     × (length l.list ≡ length l.initial.list)
     × (length l.marks ≡ length l.initial.marks)
-
-abbrev pub decreases-loop-j : goal.decreases-loop-j
-decreases-loop-j l = l.m - l.j

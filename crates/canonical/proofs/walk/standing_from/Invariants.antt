@@ -6,6 +6,3 @@ use Rattle.canonical.proofs.walk.standing_from.Given as goal
 
 abbrev pub invariant-loop-i : goal.invariant-loop-i
 invariant-loop-i l = (l.i ≤ l.len) × Follows l.cells l.p l.next l.seen l.i l.after
-
-abbrev pub decreases-loop-i : goal.decreases-loop-i
-decreases-loop-i l = l.len - l.i

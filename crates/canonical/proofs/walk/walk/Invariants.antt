@@ -10,6 +10,3 @@ abbrev pub invariant-loop-p : goal.invariant-loop-p
 invariant-loop-p l = Walked (length l.initial.marks) l.cells l.n l.roots l.m l.seen l.marks l.len l.next l.p
     × (length l.seen ≡ length l.initial.seen) × (length l.below ≡ length l.initial.below)
     × (length l.marks ≡ length l.initial.marks)
-
-abbrev pub decreases-loop-p : goal.decreases-loop-p
-decreases-loop-p l = l.n - l.p

@@ -6,6 +6,3 @@ use Rattle.fill.proofs.cells.differing_pairs.Given as goal
 
 abbrev pub invariant-loop-e : goal.invariant-loop-e
 invariant-loop-e l = (l.e ≤ l.pairs) × (l.count ≤ l.e) × (l.count ≡ differing_pairs l.work l.at l.e)
-
-abbrev pub decreases-loop-e : goal.decreases-loop-e
-decreases-loop-e l = l.pairs - l.e

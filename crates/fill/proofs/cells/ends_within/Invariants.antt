@@ -10,6 +10,3 @@ use Rattle.fill.proofs.cells.ends_within.Given as goal
 abbrev pub invariant-loop-p : goal.invariant-loop-p
 invariant-loop-p l = (l.p ≤ l.n) × (l.room ≤ l.end)
     × (links_end (l.end - l.room) (drop l.p (take l.n l.entries)) ≡ links_end l.at (take l.n l.entries))
-
-abbrev pub decreases-loop-p : goal.decreases-loop-p
-decreases-loop-p l = l.n - l.p

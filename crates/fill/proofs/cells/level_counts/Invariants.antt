@@ -8,6 +8,3 @@ use Rattle.fill.proofs.cells.level_counts.Given as goal
 
 abbrev pub invariant-loop-p : goal.invariant-loop-p
 invariant-loop-p l = (l.p ≤ l.n) × Counting l.work (links_at + 2 * l.m) l.n l.entries l.p l.at l.counts
-
-abbrev pub decreases-loop-p : goal.decreases-loop-p
-decreases-loop-p l = l.n - l.p

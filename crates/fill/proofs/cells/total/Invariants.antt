@@ -9,6 +9,3 @@ use Rattle.fill.proofs.cells.total.Given as goal
 
 abbrev pub invariant-loop-p : goal.invariant-loop-p
 invariant-loop-p l = (l.p ≤ most_variables) × (l.cells + sum ◌+◌ 0 (drop l.p l.counts) ≡ sum ◌+◌ 0 l.counts)
-
-abbrev pub decreases-loop-p : goal.decreases-loop-p
-decreases-loop-p l = most_variables - l.p

@@ -9,6 +9,3 @@ use Rattle.fill.proofs.counts.write_counts.Given as goal
 abbrev pub invariant-loop-l : goal.invariant-loop-l
 invariant-loop-l l = (l.l ≤ most_variables) × (l.counts ≡ splice l.initial.counts l.at (take l.l l.levels))
     × (length l.counts ≡ length l.initial.counts)
-
-abbrev pub decreases-loop-l : goal.decreases-loop-l
-decreases-loop-l l = most_variables - l.l

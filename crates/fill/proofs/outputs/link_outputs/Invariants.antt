@@ -7,6 +7,3 @@ use Rattle.fill.proofs.outputs.link_outputs.Given as goal
 
 abbrev pub invariant-loop-j : goal.invariant-loop-j
 invariant-loop-j l = (l.j ≤ l.m) × Linked l.n l.values l.care l.rows l.initial.work l.j l.k l.work × (length l.work ≡ length l.initial.work)
-
-abbrev pub decreases-loop-j : goal.decreases-loop-j
-decreases-loop-j l = l.m - l.j

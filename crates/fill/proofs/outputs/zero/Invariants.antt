@@ -7,6 +7,3 @@ use Rattle.fill.proofs.outputs.zero.Given as goal
 
 abbrev pub invariant-loop-j : goal.invariant-loop-j
 invariant-loop-j l = (l.j ≤ l.count) × (length l.l ≡ length l.initial.l) × (l.l ≡ splice l.initial.l l.from (replicate l.j 0))
-
-abbrev pub decreases-loop-j : goal.decreases-loop-j
-decreases-loop-j l = l.count - l.j

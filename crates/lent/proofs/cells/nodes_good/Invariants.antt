@@ -11,6 +11,3 @@ use Rattle.lent.proofs.cells.nodes_good.Given as goal
 
 abbrev pub invariant-loop-i : goal.invariant-loop-i
 invariant-loop-i l = (l.i ≤ l.count) × (all (good_node l.count (number_in l.cells) l.n) (up_to l.i) ≡ true)
-
-abbrev pub decreases-loop-i : goal.decreases-loop-i
-decreases-loop-i l = l.count - l.i

@@ -11,6 +11,3 @@ use Rattle.lent.proofs.cells.roots_good.Given as goal
 
 abbrev pub invariant-loop-j : goal.invariant-loop-j
 invariant-loop-j l = (l.j ≤ l.m) × (all (own_root l.count (number_in l.cells) (number_in l.roots)) (up_to l.j) ≡ true)
-
-abbrev pub decreases-loop-j : goal.decreases-loop-j
-decreases-loop-j l = l.m - l.j

@@ -9,6 +9,3 @@ use Rattle.lent.proofs.follow.level_bits.Given as goal
 
 abbrev pub invariant-loop-p : goal.invariant-loop-p
 invariant-loop-p l = (l.p ≤ l.n) × (l.bits ≡ packed l.p (row_under l.n (take l.n l.order) l.row))
-
-abbrev pub decreases-loop-p : goal.decreases-loop-p
-decreases-loop-p l = l.n - l.p

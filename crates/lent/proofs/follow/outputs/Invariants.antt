@@ -10,6 +10,3 @@ use Rattle.lent.proofs.follow.outputs.Given as goal
 
 abbrev pub invariant-loop-j : goal.invariant-loop-j
 invariant-loop-j l = (l.j ≤ l.m) × (l.total ≡ packed l.j (given_at (lent_cells l.count l.cells) (level_bit l.bits) l.n l.roots))
-
-abbrev pub decreases-loop-j : goal.decreases-loop-j
-decreases-loop-j l = l.m - l.j

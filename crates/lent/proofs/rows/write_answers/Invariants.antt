@@ -12,6 +12,3 @@ abbrev pub invariant-loop-i : goal.invariant-loop-i
 invariant-loop-i l = (l.i ≤ length l.rows)
     × (l.answers ≡ over (λ j. packed l.m (output_at l.n l.count l.order l.cells (get_or l.rows j 0) l.roots)) l.i
     l.initial.answers)
-
-abbrev pub decreases-loop-i : goal.decreases-loop-i
-decreases-loop-i l = length l.rows - l.i

@@ -9,6 +9,3 @@ use Rattle.lent.proofs.tabulate.value_byte.Given as goal
 
 abbrev pub invariant-loop-b : goal.invariant-loop-b
 invariant-loop-b l = (l.b ≤ 8) × (l.byte ≡ packed l.b (λ k. table_bit (λ v. v.value) (lent_table l.state l.roots l.cells) (8 * l.i + k)))
-
-abbrev pub decreases-loop-b : goal.decreases-loop-b
-decreases-loop-b l = 8 - l.b

@@ -64,10 +64,6 @@ bounds-care-i c =
       plane-length (plane_byte (λ x. x.care) t) a.care.now l.care l.i l.invariant.1.1 l.invariant.0 c.requires.plane_size_in_bounds.1,
     )
 
-pub overflow_add-i : goal.overflow_add-i
-overflow_add-i c =
-    omega (arith, plane-size)
-
 pub loop-i-smaller : goal.loop-i-smaller
 loop-i-smaller c =
     omega (arith, plane-size)

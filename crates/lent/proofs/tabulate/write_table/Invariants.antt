@@ -12,6 +12,3 @@ abbrev pub invariant-loop-i : goal.invariant-loop-i
 invariant-loop-i l = (l.i ≤ plane_size)
     × ((l.values ≡ over (plane_byte (λ x. x.value) (lent_table l.state l.roots l.cells)) l.i l.initial.values)
     × (l.care ≡ over (plane_byte (λ x. x.care) (lent_table l.state l.roots l.cells)) l.i l.initial.care))
-
-abbrev pub decreases-loop-i : goal.decreases-loop-i
-decreases-loop-i l = plane_size - l.i

@@ -8,6 +8,3 @@ use Rattle.matching.proofs.copy.copy_to.Given as goal
 
 abbrev pub invariant-loop-j : goal.invariant-loop-j
 invariant-loop-j l = (l.j ≤ length l.x) × (l.l ≡ splice l.initial.l l.k (take l.j l.x)) × (length l.l ≡ length l.initial.l)
-
-abbrev pub decreases-loop-j : goal.decreases-loop-j
-decreases-loop-j l = length l.x - l.j

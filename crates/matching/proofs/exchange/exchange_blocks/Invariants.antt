@@ -8,6 +8,3 @@ use Rattle.matching.proofs.exchange.exchange_blocks.Given as goal
 
 abbrev pub invariant-loop-j : goal.invariant-loop-j
 invariant-loop-j l = (l.j ≤ l.q) × (l.plane ≡ halfway l.q l.initial.plane l.j) × (length l.plane ≡ 4 * l.q)
-
-abbrev pub decreases-loop-j : goal.decreases-loop-j
-decreases-loop-j l = l.q - l.j

@@ -89,10 +89,6 @@ exchange_plane-requires c =
           ∙ lent_is (goal.at.exchange_plane-requires c).In-loop-i;
     }
 
-pub overflow_add-i : goal.overflow_add-i
-overflow_add-i c =
-    omega (arith, few (goal.at.overflow_add-i c).Start)
-
 pub loop-i-preserved : goal.loop-i-preserved
 loop-i-preserved c =
     let l = c.loop-i in

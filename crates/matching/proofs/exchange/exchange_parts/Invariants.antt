@@ -8,6 +8,3 @@ use Rattle.matching.proofs.exchange.exchange_parts.Given as goal
 
 abbrev pub invariant-loop-i : goal.invariant-loop-i
 invariant-loop-i l = (l.i ≤ l.planes) × (l.work ≡ exchanged_to l.d l.from l.initial.work l.i) × (length l.work ≡ length l.initial.work)
-
-abbrev pub decreases-loop-i : goal.decreases-loop-i
-decreases-loop-i l = l.planes - l.i

@@ -10,6 +10,3 @@ abbrev pub invariant-loop-e : goal.invariant-loop-e
 invariant-loop-e l = (l.e ≤ l.count) × SoFar l.d l.from l.to l.links l.initial.work l.e l.k l.work
     × (length l.work ≡ length l.initial.work) × (length l.low ≡ length l.initial.low)
     × (length l.high ≡ length l.initial.high)
-
-abbrev pub decreases-loop-e : goal.decreases-loop-e
-decreases-loop-e l = l.count - l.e

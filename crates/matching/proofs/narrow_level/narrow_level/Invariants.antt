@@ -8,6 +8,3 @@ use Rattle.matching.proofs.narrow_level.narrow_level.Given as goal
 
 abbrev pub invariant-loop-e : goal.invariant-loop-e
 invariant-loop-e l = (l.e ≤ l.count) × SoFar l.d l.from l.to l.links l.initial.work l.e l.k l.work × (length l.work ≡ length l.initial.work)
-
-abbrev pub decreases-loop-e : goal.decreases-loop-e
-decreases-loop-e l = l.count - l.e

@@ -15,6 +15,3 @@ test i w f g k = agree_byte i (value_byte f k) (care_byte w f k) (value_byte g k
 
 abbrev pub invariant-loop-j : goal.invariant-loop-j
 invariant-loop-j l = (l.j ≤ l.w) × (all (test l.i l.w l.f l.g) (up_to l.j) ≡ true)
-
-abbrev pub decreases-loop-j : goal.decreases-loop-j
-decreases-loop-j l = l.w - l.j

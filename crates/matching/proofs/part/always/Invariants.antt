@@ -15,6 +15,3 @@ test v w f k = always_byte v (value_byte f k) (care_byte w f k)
 
 abbrev pub invariant-loop-j : goal.invariant-loop-j
 invariant-loop-j l = (l.j ≤ l.w) × (all (test l.v l.w l.f) (up_to l.j) ≡ true)
-
-abbrev pub decreases-loop-j : goal.decreases-loop-j
-decreases-loop-j l = l.w - l.j

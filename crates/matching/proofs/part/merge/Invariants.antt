@@ -8,6 +8,3 @@ use Rattle.matching.proofs.part.merge.Given as goal
 
 abbrev pub invariant-loop-j : goal.invariant-loop-j
 invariant-loop-j l = (l.j ≤ l.w) × (l.g ≡ merged l.i l.w l.f l.initial.g l.j) × (length l.g ≡ l.w + l.w)
-
-abbrev pub decreases-loop-j : goal.decreases-loop-j
-decreases-loop-j l = l.w - l.j

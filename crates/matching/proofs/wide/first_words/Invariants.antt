@@ -7,6 +7,3 @@ use Rattle.matching.proofs.wide.first_words.Given as goal
 
 abbrev pub invariant-loop-e : goal.invariant-loop-e
 invariant-loop-e l = (l.e ≤ l.k) × (l.a ≡ l.e * (l.w + l.w)) × Passed l.w l.f l.region l.k l.e
-
-abbrev pub decreases-loop-e : goal.decreases-loop-e
-decreases-loop-e l = l.k - l.e

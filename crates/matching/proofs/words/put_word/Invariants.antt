@@ -10,6 +10,3 @@ use Rattle.matching.proofs.words.put_word.Given as goal
 abbrev pub invariant-loop-j : goal.invariant-loop-j
 invariant-loop-j l = (l.j ≤ l.w) × (l.s ≡ splice l.initial.s l.a (take l.j (bytes_of l.w l.x)))
     × (length l.s ≡ length l.initial.s) × (drop l.j (bytes_of l.w l.x) ≡ bytes_of (l.w - l.j) l.rest)
-
-abbrev pub decreases-loop-j : goal.decreases-loop-j
-decreases-loop-j l = l.w - l.j

@@ -8,6 +8,3 @@ use Rattle.network.proofs.levels.read_level.Given as goal
 abbrev pub invariant-loop-j : goal.invariant-loop-j
 invariant-loop-j l = (l.j ≤ l.e)
     × (made l.work l.cells l.next ≡ level_made l.p l.below l.i l.j (made l.initial.work l.initial.cells l.base))
-
-abbrev pub decreases-loop-j : goal.decreases-loop-j
-decreases-loop-j l = l.e - l.j

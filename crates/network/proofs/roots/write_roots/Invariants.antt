@@ -9,6 +9,3 @@ use Rattle.network.proofs.roots.write_roots.Given as goal
 
 abbrev pub invariant-loop-j : goal.invariant-loop-j
 invariant-loop-j l = (l.j ≤ most_outputs) × (l.roots ≡ over (root_at l.work l.m l.below) l.j l.initial.roots)
-
-abbrev pub decreases-loop-j : goal.decreases-loop-j
-decreases-loop-j l = most_outputs - l.j

@@ -47,10 +47,6 @@ write_block-requires c =
           c.loop-k.invariant.1;
     }
 
-pub overflow_add-k : goal.overflow_add-k
-overflow_add-k c =
-    omega (arith, cell-blocks-most c.args.state.count c.requires.0.counted, c.blocks_for-blocks.ensures, c.loop-k-test.true)
-
 pub loop-k-preserved : goal.loop-k-preserved
 loop-k-preserved c =
     let w = c.write_block in

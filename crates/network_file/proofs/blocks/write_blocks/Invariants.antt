@@ -9,6 +9,3 @@ use Rattle.network_file.proofs.blocks.write_blocks.Given as goal
 
 abbrev pub invariant-loop-k : goal.invariant-loop-k
 invariant-loop-k l = (l.k ≤ suc l.blocks) × (l.file ≡ over (file_byte l.state l.roots l.cells) (block_size * l.k) l.initial.file)
-
-abbrev pub decreases-loop-k : goal.decreases-loop-k
-decreases-loop-k l = suc l.blocks - l.k

@@ -14,6 +14,3 @@ invariant-loop-i l = (l.i ≤ check_at)
     × (l.total ≡ sum_below (λ j. suc j * block_content l.state l.roots l.cells l.k j) l.i)
     × (l.total ≤ check_at * 255 * l.i)
     × (l.file ≡ over (file_byte l.state l.roots l.cells) (block_size * l.k + l.i) l.initial.file)
-
-abbrev pub decreases-loop-i : goal.decreases-loop-i
-decreases-loop-i l = check_at - l.i

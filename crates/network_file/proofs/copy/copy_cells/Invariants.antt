@@ -8,6 +8,3 @@ use Rattle.network_file.proofs.copy.copy_cells.Given as goal
 
 abbrev pub invariant-loop-x : goal.invariant-loop-x
 invariant-loop-x l = (l.x ≤ 3 * l.count) × (l.cells ≡ over (cell_number l.file) l.x l.initial.cells)
-
-abbrev pub decreases-loop-x : goal.decreases-loop-x
-decreases-loop-x l = 3 * l.count - l.x

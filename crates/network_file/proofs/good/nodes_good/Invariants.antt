@@ -11,6 +11,3 @@ use Rattle.network_file.proofs.good.nodes_good.Given as goal
 
 abbrev pub invariant-loop-i : goal.invariant-loop-i
 invariant-loop-i l = (l.i ≤ l.count) × (all (good_node l.count (cell_number l.file) l.n) (up_to l.i) ≡ true)
-
-abbrev pub decreases-loop-i : goal.decreases-loop-i
-decreases-loop-i l = l.count - l.i

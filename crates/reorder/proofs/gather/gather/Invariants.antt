@@ -11,6 +11,3 @@ abbrev pub invariant-loop-i : goal.invariant-loop-i
 invariant-loop-i l = (l.i ≤ l.w)
     × (length l.part ≡ length l.initial.part)
     × (l.part ≡ written_both (gathered_byte l.values l.base l.map l.k) (gathered_byte l.care l.base l.map l.k) l.w l.initial.part l.i)
-
-abbrev pub decreases-loop-i : goal.decreases-loop-i
-decreases-loop-i l = l.w - l.i

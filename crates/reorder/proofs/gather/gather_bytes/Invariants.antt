@@ -7,6 +7,3 @@ use Rattle.reorder.proofs.gather.gather_bytes.Given as goal
 
 abbrev pub invariant-loop-b : goal.invariant-loop-b
 invariant-loop-b l = (l.b ≤ l.k) × (l.v ≡ gathered_byte l.values l.base l.map l.b l.i) × (l.c ≡ gathered_byte l.care l.base l.map l.b l.i)
-
-abbrev pub decreases-loop-b : goal.decreases-loop-b
-decreases-loop-b l = l.k - l.b

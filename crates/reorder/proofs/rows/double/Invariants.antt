@@ -9,6 +9,3 @@ use Rattle.reorder.proofs.rows.double.Given as goal
 abbrev pub invariant-loop-s : goal.invariant-loop-s
 invariant-loop-s l = (l.s ≤ l.count) × (length l.map ≡ length l.initial.map)
     × (l.map ≡ written_from (λ j. get_or l.initial.map j 0 + l.share) l.count l.initial.map l.s)
-
-abbrev pub decreases-loop-s : goal.decreases-loop-s
-decreases-loop-s l = l.count - l.s

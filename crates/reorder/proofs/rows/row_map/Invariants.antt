@@ -10,6 +10,3 @@ use Rattle.reorder.proofs.rows.row_map.Given as goal
 
 abbrev pub invariant-loop-l : goal.invariant-loop-l
 invariant-loop-l l = (l.l ≤ l.n) × ((order : List ℕ) → l.shares ≡ row_shares l.n order → l.map ≡ rows_to l.n order l.l)
-
-abbrev pub decreases-loop-l : goal.decreases-loop-l
-decreases-loop-l l = l.n - l.l

@@ -7,6 +7,3 @@ use Rattle.reorder.proofs.rows.shares.Given as goal
 
 abbrev pub invariant-loop-v : goal.invariant-loop-v
 invariant-loop-v l = (l.v ≤ l.n) × (l.shares ≡ shares_of l.n l.order l.v)
-
-abbrev pub decreases-loop-v : goal.decreases-loop-v
-decreases-loop-v l = l.n - l.v

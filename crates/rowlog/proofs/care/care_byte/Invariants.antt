@@ -8,6 +8,3 @@ use Rattle.rowlog.proofs.care.care_byte.Given as goal
 
 abbrev pub invariant-loop-b : goal.invariant-loop-b
 invariant-loop-b l = (l.b ≤ 8) × (l.byte ≡ packed l.b (λ k. care_bit l.counts l.least l.n l.end (8 * l.i + k)))
-
-abbrev pub decreases-loop-b : goal.decreases-loop-b
-decreases-loop-b l = 8 - l.b

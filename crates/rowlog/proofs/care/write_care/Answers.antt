@@ -24,10 +24,6 @@ bounds-care-i c =
           c.requires.1,
     )
 
-pub overflow_add-i : goal.overflow_add-i
-overflow_add-i c =
-    omega (arith, plane-size)
-
 pub loop-i-smaller : goal.loop-i-smaller
 loop-i-smaller c =
     omega (arith, plane-size)

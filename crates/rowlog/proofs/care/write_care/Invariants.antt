@@ -9,6 +9,3 @@ use Rattle.rowlog.proofs.care.write_care.Given as goal
 
 abbrev pub invariant-loop-i : goal.invariant-loop-i
 invariant-loop-i l = (l.i ≤ plane_size) × (l.care ≡ over (counted_byte l.counts l.least l.n l.end) l.i l.initial.care)
-
-abbrev pub decreases-loop-i : goal.decreases-loop-i
-decreases-loop-i l = plane_size - l.i

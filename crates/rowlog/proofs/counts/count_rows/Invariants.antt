@@ -10,6 +10,3 @@ use Rattle.rowlog.proofs.counts.count_rows.Given as goal
 abbrev pub invariant-loop-j : goal.invariant-loop-j
 invariant-loop-j l = (l.j ≤ length l.rows)
     × (l.counts ≡ over (seen (take l.j l.rows) l.initial.counts) (length l.initial.counts) l.initial.counts)
-
-abbrev pub decreases-loop-j : goal.decreases-loop-j
-decreases-loop-j l = length l.rows - l.j

@@ -14,10 +14,6 @@ overflow_add-sum c =
     let l = c.loop-i in
     omega (arith, l.invariant.1.1, c.lent_count-sum.ensures.1, c.loop-i-test.true, c.requires)
 
-pub overflow_add-i : goal.overflow_add-i
-overflow_add-i c =
-    omega (arith, c.loop-i-test.true, c.requires)
-
 pub loop-i-preserved : goal.loop-i-preserved
 loop-i-preserved c =
     let l = c.loop-i in

@@ -9,6 +9,3 @@ use Rattle.rowlog.proofs.counts.sum_of.Given as goal
 
 abbrev pub invariant-loop-i : goal.invariant-loop-i
 invariant-loop-i l = (l.i ≤ l.end) × ((l.sum ≡ sum_below (λ k. get_or l.counts k 0) l.i) × (l.sum ≤ l.i * most_records))
-
-abbrev pub decreases-loop-i : goal.decreases-loop-i
-decreases-loop-i l = l.end - l.i

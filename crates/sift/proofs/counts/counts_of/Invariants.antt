@@ -10,6 +10,3 @@ use Rattle.sift.proofs.counts.counts_of.Given as goal
 
 abbrev pub invariant-loop-l : goal.invariant-loop-l
 invariant-loop-l l = (l.l ≤ most_variables) × (l.read ≡ take l.l (counts_of l.p l.counts) ++ drop l.l (replicate most_variables 0))
-
-abbrev pub decreases-loop-l : goal.decreases-loop-l
-decreases-loop-l l = most_variables - l.l

@@ -11,6 +11,3 @@ use Rattle.sift.proofs.counts.total_of.Given as goal
 
 abbrev pub invariant-loop-l : goal.invariant-loop-l
 invariant-loop-l l = (l.l ≤ most_variables) × (l.total + sum ◌+◌ 0 (drop l.l (counts_of l.p l.counts)) ≡ sum ◌+◌ 0 (counts_of l.p l.counts))
-
-abbrev pub decreases-loop-l : goal.decreases-loop-l
-decreases-loop-l l = most_variables - l.l

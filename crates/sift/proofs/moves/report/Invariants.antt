@@ -14,6 +14,3 @@ abbrev pub invariant-loop-v : goal.invariant-loop-v
 invariant-loop-v l = (l.v ≤ l.state.n)
     × ((l.gains ≡ over (gain_at (held_table l.state l.values l.care) (order_of l.state)) (l.state.n * l.v) l.initial.gains)
     × ((length l.gains ≡ length l.initial.gains) × (l.work ≡ l.initial.work)))
-
-abbrev pub decreases-loop-v : goal.decreases-loop-v
-decreases-loop-v l = l.state.n - l.v

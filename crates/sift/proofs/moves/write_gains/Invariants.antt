@@ -11,6 +11,3 @@ use Rattle.sift.proofs.moves.write_gains.Given as goal
 abbrev pub invariant-loop-p : goal.invariant-loop-p
 invariant-loop-p l = (l.p ≤ l.n)
     × ((l.row ≡ over (counts_gain l.present l.counts) l.p l.initial.row) × (length l.row ≡ length l.initial.row))
-
-abbrev pub decreases-loop-p : goal.decreases-loop-p
-decreases-loop-p l = l.n - l.p

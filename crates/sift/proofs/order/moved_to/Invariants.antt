@@ -10,6 +10,3 @@ use Rattle.sift.proofs.order.moved_to.Given as goal
 
 abbrev pub invariant-loop-i : goal.invariant-loop-i
 invariant-loop-i l = (l.i ≤ l.n) × (l.after ≡ take l.i (moved l.v l.p (take l.n l.order)) ++ drop l.i l.order)
-
-abbrev pub decreases-loop-i : goal.decreases-loop-i
-decreases-loop-i l = l.n - l.i

@@ -9,7 +9,4 @@ use Rattle.sift.proofs.Trying.BestLevel.{after_trials}
 use Rattle.sift.proofs.trials.best_level.Given as goal
 
 abbrev pub invariant-loop-p : goal.invariant-loop-p
-invariant-loop-p l = (l.p ≤ l.state.n) × (l.best ≡ after_trials (held_table l.state l.values l.care) l.v (order_of l.state) l.p)
-
-abbrev pub decreases-loop-p : goal.decreases-loop-p
-decreases-loop-p l = l.state.n - l.p
+invariant-loop-p l = (l.p ≤ l.fn.state.n) × (l.best ≡ after_trials (held_table l.fn.state l.values l.care) l.v (order_of l.fn.state) l.p)

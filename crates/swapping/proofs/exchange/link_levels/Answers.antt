@@ -134,10 +134,6 @@ pub overflow_add-at-in-loop-q : goal.overflow_add-at-in-loop-q
 overflow_add-at-in-loop-q c =
     omega (arith, ends (goal.at.overflow_add-at-in-loop-q c).In-loop-q, c.requires.list_len.0, c.requires.list_len.1)
 
-pub overflow_add-q : goal.overflow_add-q
-overflow_add-q c =
-    omega (arith, c.loop-q-test.true, c.requires.n_le_most_variables.0)
-
 pub loop-q-smaller : goal.loop-q-smaller
 loop-q-smaller c =
     omega (arith, c.loop-q-test.true)

@@ -15,6 +15,3 @@ invariant-loop-q l = (l.q ≤ l.n)
     × Linking (lent_at l.cells) l.p (map both (take l.m l.roots)) l.initial.work l.initial.at l.q l.len l.seen l.work
     l.entries l.at × (length l.entries ≡ most_variables)
     × (length l.seen ≡ length l.initial.seen) × (length l.list ≡ length l.initial.list) × (length l.work ≡ length l.initial.work)
-
-abbrev pub decreases-loop-q : goal.decreases-loop-q
-decreases-loop-q l = l.n - l.q

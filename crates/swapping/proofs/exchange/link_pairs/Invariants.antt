@@ -11,6 +11,3 @@ abbrev pub invariant-loop-j : goal.invariant-loop-j
 invariant-loop-j l = (l.j ≤ l.e)
     × Turns (lent_at l.cells) l.p l.q l.seen l.at l.initial.work l.j l.len l.list l.marks l.work
     × (length l.list ≡ length l.initial.list) × (length l.work ≡ length l.initial.work)
-
-abbrev pub decreases-loop-j : goal.decreases-loop-j
-decreases-loop-j l = l.e - l.j

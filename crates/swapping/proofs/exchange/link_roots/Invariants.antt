@@ -9,6 +9,3 @@ use Rattle.swapping.proofs.exchange.link_roots.Given as goal
 abbrev pub invariant-loop-j : goal.invariant-loop-j
 invariant-loop-j l = (l.j ≤ l.m) × Rooted l.roots l.initial.work l.j l.len l.list l.marks l.work
     × (length l.list ≡ length l.initial.list) × (length l.work ≡ length l.initial.work)
-
-abbrev pub decreases-loop-j : goal.decreases-loop-j
-decreases-loop-j l = l.m - l.j

@@ -10,6 +10,3 @@ use Rattle.swapping.proofs.seen.search_entry.Given as goal
 
 abbrev pub invariant-loop-i : goal.invariant-loop-i
 invariant-loop-i l = (l.i ≤ l.len) × (has same_class (pair_of l.x) (pairs_in l.i l.list) ≡ false)
-
-abbrev pub decreases-loop-i : goal.decreases-loop-i
-decreases-loop-i l = l.len - l.i

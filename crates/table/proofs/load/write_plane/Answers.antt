@@ -28,10 +28,6 @@ bounds-plane-i c =
       length_over (stream_byte a.file.now a.first a.blocks) l.i a.plane.now (omega (arith, plane-size)),
     )
 
-pub overflow_add-i : goal.overflow_add-i
-overflow_add-i c =
-    omega (arith, plane-size)
-
 pub loop-i-smaller : goal.loop-i-smaller
 loop-i-smaller c =
     omega (arith, plane-size)

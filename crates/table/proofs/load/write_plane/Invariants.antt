@@ -9,6 +9,3 @@ use Rattle.table.proofs.load.write_plane.Given as goal
 
 abbrev pub invariant-loop-i : goal.invariant-loop-i
 invariant-loop-i l = (l.i ≤ plane_size) × (l.plane ≡ over (stream_byte l.file l.first l.blocks) l.i l.initial.plane)
-
-abbrev pub decreases-loop-i : goal.decreases-loop-i
-decreases-loop-i l = plane_size - l.i

@@ -8,6 +8,3 @@ use Rattle.table.proofs.order.is_order.Given as goal
 
 abbrev pub invariant-loop-i : goal.invariant-loop-i
 invariant-loop-i l = (l.i ≤ l.n) × (fine l.n (rest l.order l.n 0) ≡ fine l.n (rest l.order l.n l.i))
-
-abbrev pub decreases-loop-i : goal.decreases-loop-i
-decreases-loop-i l = l.n - l.i

@@ -16,6 +16,3 @@ entry file n q = cond (ltb q n) (byte file 0 (6 + q)) 0
 
 abbrev pub invariant-loop-p : goal.invariant-loop-p
 invariant-loop-p l = (l.p ≤ most_variables) × (l.order ≡ filled (entry l.file l.n) most_variables l.p)
-
-abbrev pub decreases-loop-p : goal.decreases-loop-p
-decreases-loop-p l = most_variables - l.p

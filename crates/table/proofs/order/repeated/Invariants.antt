@@ -9,6 +9,3 @@ use Rattle.table.proofs.order.repeated.Given as goal
 
 abbrev pub invariant-loop-j : goal.invariant-loop-j
 invariant-loop-j l = (l.j ≤ l.n) × (has eqb l.v (rest l.order l.n (suc l.i)) ≡ has eqb l.v (rest l.order l.n l.j))
-
-abbrev pub decreases-loop-j : goal.decreases-loop-j
-decreases-loop-j l = l.n - l.j

@@ -9,6 +9,3 @@ use Rattle.text.proofs.held.put_cells.Given as goal
 abbrev pub invariant-loop-i : goal.invariant-loop-i
 invariant-loop-i l = ((l.i ≤ l.count) × (l.i ≤ length l.cells / 3))
     × Written l.initial.out l.out l.at l.next (in_turn (cell_line l.cells) l.i)
-
-abbrev pub decreases-loop-i : goal.decreases-loop-i
-decreases-loop-i l = l.count - l.i

@@ -7,6 +7,3 @@ use Rattle.text.proofs.held.put_roots.Given as goal
 
 abbrev pub invariant-loop-j : goal.invariant-loop-j
 invariant-loop-j l = (l.j ≤ l.m) × Written l.initial.out l.out l.at l.next (in_turn (root_line l.roots) l.j)
-
-abbrev pub decreases-loop-j : goal.decreases-loop-j
-decreases-loop-j l = l.m - l.j

@@ -8,6 +8,3 @@ use Rattle.text.proofs.line.put_entries.Given as goal
 
 abbrev pub invariant-loop-i : goal.invariant-loop-i
 invariant-loop-i l = (l.i ≤ l.n) × Written l.initial.out l.out l.at l.next (in_turn (λ k. spaced (get_or l.order k 0)) l.i)
-
-abbrev pub decreases-loop-i : goal.decreases-loop-i
-decreases-loop-i l = l.n - l.i

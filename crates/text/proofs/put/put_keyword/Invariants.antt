@@ -7,6 +7,3 @@ use Rattle.text.proofs.put.put_keyword.Given as goal
 
 abbrev pub invariant-loop-i : goal.invariant-loop-i
 invariant-loop-i l = (l.i ≤ length l.word) × Written l.initial.out l.out l.at l.next (take l.i l.word)
-
-abbrev pub decreases-loop-i : goal.decreases-loop-i
-decreases-loop-i l = length l.word - l.i

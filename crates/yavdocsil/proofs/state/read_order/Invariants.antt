@@ -10,6 +10,3 @@ use Rattle.yavdocsil.proofs.state.read_order.Given as goal
 
 abbrev pub invariant-loop-p : goal.invariant-loop-p
 invariant-loop-p l = (l.p ≤ most_variables) × (l.order ≡ take l.p (drop order_at l.words) ++ drop l.p (replicate most_variables 0))
-
-abbrev pub decreases-loop-p : goal.decreases-loop-p
-decreases-loop-p l = most_variables - l.p

@@ -8,6 +8,3 @@ use Rattle.yavdocsil.proofs.state.write_words.Given as goal
 
 abbrev pub invariant-loop-i : goal.invariant-loop-i
 invariant-loop-i l = (l.i ≤ length l.numbers) × (l.words ≡ paste l.initial.words l.at l.numbers l.i)
-
-abbrev pub decreases-loop-i : goal.decreases-loop-i
-decreases-loop-i l = length l.numbers - l.i
