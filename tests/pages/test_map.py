@@ -20,7 +20,7 @@ SECTIONS = [*(str(number) for number in range(1, 10)), *(f"2.{number}" for numbe
 WORDS = r"(?:(?:pub|abbrev|opaque|unfoldable)\s+)*"
 DEFINES = {
     ".antt": re.compile(rf"^[ \t]*{WORDS}(?:(?:data|record)\s+([^\s:]+)|([^\s:({{]\S*)\s+:(?=\s))", re.MULTILINE),
-    ".rt": re.compile(r'^[ \t]*(?:pub(?:\([a-z]+\))?\s+)?(?:extern "C"\s+)?(?:fn|const|struct|enum)\s+(\w+)', re.MULTILINE),
+    ".rt": re.compile(r'^[ \t]*(?:pub(?:\([a-z]+\))?\s+)?(?:extern "C"\s+)?(?:fn|const|struct|enum|type)\s+(\w+)', re.MULTILINE),
 }
 
 

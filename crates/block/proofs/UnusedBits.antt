@@ -5,7 +5,7 @@ use mathlib.Core.Bool.{Bool, true, false, not, ◌&&◌}
 use mathlib.Core.List.{List}
 use mathlib.Core.Logic.{◌≢◌}
 use Prim.Native.Nat.{ℕ, zero, suc, ◌+◌, ◌*◌, ◌-◌, ◌/◌, ◌%◌, ◌^◌, ◌≤◌, ◌<◌}
-use native.Mathlib.Nat.{div-eq_of_lt, div-one, zero-add, lt_of_lt_of_le, mod-lt}
+use native.Mathlib.Nat.{div-eq_of_lt, zero-add, lt_of_lt_of_le, mod-lt}
 use native.Mathlib.Omega.{arith}
 use borrow.Author.Tests.{eqb-false, eq-eqb, le-leb, leb-true}
 use lib.Dec.{T, eqb, leb, eqb→eq, leb→le, le→leb}
@@ -14,7 +14,7 @@ use lib.Pow as Pow
 use Rattle.lists.specs.Lists.{all, up_to}
 use Rattle.lists.proofs.Bools.{to-T, absurd-T, both_ways}
 use Rattle.lists.proofs.Numbers.Compared.{all-up_to-at, all-up_to-of}
-use Rattle.lists.proofs.Numbers.Below.{all_more, all_same}
+use Rattle.lists.proofs.Numbers.Below.{all_same}
 use Rattle.block.specs.Block.{content_at, content_size, content_bits, byte, content_bit, unused_bits_zero}
 use Rattle.block.specs.Inner.UnusedByte.{unused_byte_zero}
 
@@ -92,25 +92,20 @@ past-last used j b =
 
 module _ (file : List ℕ) (k used j x : ℕ) (h : x < 256) (e : x ≡ byte file k (content_at + j)) where
   -- the eight tests of byte j by one shift
-  pub byte-shifted : unused_byte_zero file k used j ≡ eqb (x / 2 ^ (used - 8 * j)) 0
+  pub byte_shifted : unused_byte_zero file k used j ≡ eqb (x / 2 ^ (used - 8 * j)) 0
   unfolding unused_byte_zero
-  byte-shifted =
+  byte_shifted =
       all_same (λ b. not (content_bit file k (8 * j + b) && leb used (8 * j + b)))
       (λ b. not (eqb (x / 2 ^ b % 2) 1 && leb (used - 8 * j) b)) 8
       (λ b l. ap₂ (λ (u v : Bool). not (u && v)) (content-bit file k j x b l e) (past-last used j b))
       ∙ upper-bits 8 (used - 8 * j) x h
 
-  -- a byte whose bits are all used, and one of which none is
+  -- a byte whose bits are all used
   pub byte_inside : 8 * j + 8 ≤ used → true ≡ unused_byte_zero file k used j
   byte_inside l =
       sym
-      (byte-shifted
+      (byte_shifted
       ∙ eq-eqb (x / 2 ^ (used - 8 * j)) 0 (div-eq_of_lt (lt_of_lt_of_le h (pow_mono {i = 8} (omega arith)))))
-
-  pub byte-outside : used ≤ 8 * j → eqb x 0 ≡ unused_byte_zero file k used j
-  byte-outside l =
-      let z : used - 8 * j ≡ 0 = omega arith in
-      sym (byte-shifted ∙ ap (λ (n : ℕ). eqb (x / 2 ^ n) 0) z ∙ ap (λ (y : ℕ). eqb y 0) (div-one x))
 
 -- each bit from bit `used` on is 0
 pub unused-bit : (file : List ℕ) (k used : ℕ) → T (unused_bits_zero file k used)
@@ -120,10 +115,3 @@ unused-bit file k used t i h l =
     first-false (content_bit file k i) (leb used i)
     (all-up_to-at (λ j. not (content_bit file k j && leb used j)) content_bits t i h)
     (le-leb used i l)
-
--- of the bytes from byte `from` on, those passed and one more
-pub passed-more : (p : ℕ → Bool) (from i : ℕ) → from ≤ i → T (all p (up_to (i - from))) → p (i - from) ≡ true
-    → T (all p (up_to (i + 1 - from)))
-passed-more p from i h t e =
-    let d : i - from + 1 ≡ i + 1 - from = omega arith in
-    subst (λ (n : ℕ). T (all p (up_to n))) d (all_more p (i - from) t e)

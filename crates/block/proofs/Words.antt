@@ -8,9 +8,8 @@ use native.Mathlib.Numerals.{add-one}
 use native.Mathlib.Omega.{arith}
 use borrow.Author.Tests.{ltb-true, ltb-false}
 use lib.Dec.{ltb}
-use lib.Bits.{bit_or, or_shifted_r}
 use lib.Count.{ones}
-use lib.Pow.{pow-add, low, high, shr-shr, shl_exact}
+use lib.Pow.{pow-add, low, high, shr-shr}
 use lib.ListN.{get_or}
 use Rattle.lists.specs.Bits.{digit}
 use Rattle.lists.specs.Sums.{sum_below}
@@ -29,18 +28,6 @@ word_lt word b k h l =
     let m : b * 2 ^ (8 * k) ≤ 255 * 2 ^ (8 * k) = mul-le-mul_right (2 ^ (8 * k)) b255 in
     let p : 2 ^ (8 + 8 * k) ≡ 256 * 2 ^ (8 * k) = pow-add 2 8 (8 * k) in
     subst (λ (j : ℕ). word + b * 2 ^ (8 * k) < 2 ^ j) (sym e) (omega arith)
-
-word-or : (word b k : ℕ) → word < 2 ^ (8 * k) → b < 256 → k < 8 → bit_or word (b * 2 ^ (8 * k) % 2 ^ 64) ≡ word + b * 2 ^ (8 * k)
-word-or word b k h l g =
-    ap (bit_or word) (shl_exact 8 (8 * k) 64 l (omega arith)) ∙ or_shifted_r b (8 * k) word h ∙ add_comm (b * 2 ^ (8 * k)) word
-
-pub word_more : (bytes : List ℕ) (at k word b : ℕ) → word ≡ word_of bytes at k → word < 2 ^ (8 * k) → b ≡ get_or bytes (at + k) 0 → b < 256
-    → k < 8
-    → (bit_or word (b * 2 ^ (8 * k) % 2 ^ 64) ≡ word_of bytes at (k + 1)) × (bit_or word (b * 2 ^ (8 * k) % 2 ^ 64) < 2 ^ (8 * (k + 1)))
-word_more bytes at k word b e h d l g = (
-  word-or word b k h l g ∙ ap₂ (λ (x y : ℕ). x + y * 2 ^ (8 * k)) e d ∙ ap (word_of bytes at) (sym (add-one k)),
-  subst (λ (x : ℕ). x < 2 ^ (8 * (k + 1))) (sym (word-or word b k h l g)) (word_lt word b k h l),
-)
 
 module _ (bytes : List ℕ) (small : (i : ℕ) → get_or bytes i 0 < 256) where
   pub word_of-lt : (at k : ℕ) → word_of bytes at k < 2 ^ (8 * k)

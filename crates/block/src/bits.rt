@@ -3,11 +3,13 @@ ghost use Rattle.std.specs.Prelude.{◌≡◌, ◌<◌, get_or};
 ghost use Rattle.lists.specs.Bits.{digit};
 ghost use Rattle.block.specs.Bits.{stream_bit, word_of};
 
+use std::array;
+
 // Byte i, or 0 past the end.
 pub fn byte_at(bytes: &[u8], i: usize) -> u8
     ensures { result ≡ get_or bytes.now i 0 }
 {
-    if i < bytes.len() { bytes[i] } else { 0 }
+    bytes.get(i).copied().unwrap_or(0)
 }
 
 // The same as a number to compute with.
@@ -18,21 +20,11 @@ pub fn number_at(bytes: &[u8], i: usize) -> usize
 }
 
 // Bit i of a stream as a number.
+#[tactic(auto, using(crate::proofs::StreamBits::bit_shifted))]
 pub fn digit_at(bytes: &[u8], i: usize) -> u8
     ensures { result ≡ digit (stream_bit bytes.now i) }
 {
     byte_at(bytes, i >> 3) >> (i & 7) & 1
-}
-
-// The first eight bytes as a word, the lowest first.
-fn first_word(bytes: &[u8]) -> u64
-    ensures { result ≡ word_of bytes.now 0 8 }
-{
-    let mut word: u64 = 0;
-    for k in 0..8 {
-        word |= (number_at(bytes, k) as u64) << (8 * k);
-    }
-    word
 }
 
 // Eight bytes from byte `at` on as a word.
@@ -42,5 +34,6 @@ pub fn word_at(bytes: &[u8], at: usize) -> u64
     if bytes.len() < at {
         return 0;
     }
-    first_word(&bytes[at..])
+    let rest = &bytes[at..];
+    u64::from_le_bytes(array::from_fn(|k| byte_at(rest, k)))
 }

@@ -7,21 +7,12 @@ ghost use Rattle.block.specs.Numbers.{number_limit};
 pub fn lent_number(numbers: &[u16], i: usize) -> usize
     ensures { (result ≡ get_or numbers.now i 0) × (result < number_limit) }
 {
-    if i < numbers.len() {
-        numbers[i] as usize
-    } else {
-        0
-    }
+    numbers.get(i).copied().unwrap_or(0) as usize
 }
 
 // Whether every number is below a limit.
 pub fn all_below(numbers: &[u16], limit: usize) -> bool
     ensures { result ≡ all (λ x. ltb x limit) numbers.now }
 {
-    for j in 0..numbers.len() {
-        if limit <= lent_number(numbers, j) {
-            return false;
-        }
-    }
-    true
+    numbers.iter().all(|x| (*x as usize) < limit)
 }

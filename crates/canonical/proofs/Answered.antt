@@ -1,5 +1,6 @@
 -- What the test of number 32 answers, one test after the other, and what a success says.
 -- Assumes nothing.
+use Rattle.std.specs.Prelude.{Ok, Err}
 use mathlib.Core.Path.{◌≡◌, refl, ◌∙◌}
 use mathlib.Core.Bool.{true, false, not}
 use mathlib.Core.List.{List}
@@ -16,7 +17,7 @@ use Rattle.diagram.specs.Orders.Order.{is_order}
 use Rattle.diagram.specs.Canonical.Computed.{canonical}
 use Rattle.diagram.specs.Canonical.Structure.{structured}
 use Rattle.diagram.proofs.Canonical.NetworkIff.{network-iff, canonical-count}
-use Rattle.table.specs.declared.Answer.TheVariants.{Done, ShortBuffer, NoNetwork, BadCells, NotCanonical}
+use Rattle.table.specs.declared.Refusal.TheVariants.{ShortBuffer, NoNetwork, BadCells, NotCanonical}
 use Rattle.table.specs.declared.State.{State}
 use Rattle.table.specs.Answer.{done}
 use Rattle.table.specs.State.{order_of, stage_of, is_nothing, is_network}
@@ -37,17 +38,17 @@ many-none n m order D hn hm o w h =
     split (canonical true n m order D) (λ e. absurd (omega (arith, canonical-count n m order D o w hn hm (to-T e)))) (λ e. e)
 
 module _ (s : State) (roots cells : List ℕ) where
-  pub answer-short : length roots < most_outputs → ShortBuffer ≡ canonical_answer s roots cells
+  pub answer-short : length roots < most_outputs → Err ShortBuffer ≡ canonical_answer s roots cells
   unfolding canonical_answer roots_size
   answer-short h = rw (lt-leb most_outputs (length roots) h)
 
   module _ (long : most_outputs ≤ length roots) where
-    pub answer-no-network : is_network (stage_of s) ≡ false → NoNetwork ≡ canonical_answer s roots cells
+    pub answer-no-network : is_network (stage_of s) ≡ false → Err NoNetwork ≡ canonical_answer s roots cells
     unfolding canonical_answer roots_size
     answer-no-network e = rw (le-leb most_outputs (length roots) long, e)
 
     module _ (held : is_network (stage_of s) ≡ true) where
-      pub answer-bad-cells : good_cells s roots cells ≡ false → BadCells ≡ canonical_answer s roots cells
+      pub answer-bad-cells : good_cells s roots cells ≡ false → Err BadCells ≡ canonical_answer s roots cells
       unfolding canonical_answer roots_size
       answer-bad-cells e = rw (le-leb most_outputs (length roots) long, held, e)
 
@@ -60,11 +61,11 @@ module _ (s : State) (roots cells : List ℕ) where
         ordered = (followable s roots cells long held good).ordered
 
         not-canonical : canonical true s.n s.m (order_of s) (lent_diagram s.count s.m cells roots) ≡ false
-            → NotCanonical ≡ canonical_answer s roots cells
+            → Err NotCanonical ≡ canonical_answer s roots cells
         unfolding canonical_answer roots_size
         not-canonical e = rw (le-leb most_outputs (length roots) long, held, good, e)
 
-        pub answer-many : most_nodes < s.count → NotCanonical ≡ canonical_answer s roots cells
+        pub answer-many : most_nodes < s.count → Err NotCanonical ≡ canonical_answer s roots cells
         answer-many h =
             not-canonical
             (many-none s.n s.m (order_of s) (lent_diagram s.count s.m cells roots)
@@ -76,11 +77,11 @@ module _ (s : State) (roots cells : List ℕ) where
         iff = network-iff true s.n s.m (order_of s) (lent_diagram s.count s.m cells roots) ordered formed
 
         pub answer-not : structured true s.n (lent_diagram s.count s.m cells roots) ≡ false
-            → NotCanonical ≡ canonical_answer s roots cells
+            → Err NotCanonical ≡ canonical_answer s roots cells
         answer-not e = not-canonical (iff ∙ e)
 
         pub answer-done : structured true s.n (lent_diagram s.count s.m cells roots) ≡ true
-            → Done 0 ≡ canonical_answer s roots cells
+            → Ok 0 ≡ canonical_answer s roots cells
         unfolding canonical_answer roots_size
         answer-done e = rw (le-leb most_outputs (length roots) long, held, good, iff ∙ e)
 
@@ -97,10 +98,10 @@ pub success : (s : State) (roots cells : List ℕ) → T (done (canonical_answer
 unfolding canonical_answer roots_size
 success s roots cells t =
     let D : Diagram = lent_diagram s.count s.m cells roots in
-    let r = unless-done (leb most_outputs (length roots)) ShortBuffer _ refl t in
-    let n = unless-done (is_network (stage_of s)) NoNetwork _ refl r.1 in
-    let g = unless-done (good_cells s roots cells) BadCells _ refl n.1 in
-    let c = unless-done (canonical true s.n s.m (order_of s) D) NotCanonical (Done 0) refl g.1 in
+    let r = unless-done (leb most_outputs (length roots)) ShortBuffer _ t in
+    let n = unless-done (is_network (stage_of s)) NoNetwork _ r.1 in
+    let g = unless-done (good_cells s roots cells) BadCells _ n.1 in
+    let c = unless-done (canonical true s.n s.m (order_of s) D) NotCanonical (Ok 0) g.1 in
     let long : most_outputs ≤ length roots = leb→le most_outputs (length roots) r.0 in
     let held : is_network (stage_of s) ≡ true = of_T n.0 in
     let good : good_cells s roots cells ≡ true = of_T g.0 in

@@ -15,7 +15,7 @@ use Rattle.diagram.specs.Canonical.Structure.{node_on, at_level, targets, spread
 use Rattle.diagram.proofs.Networks.Reference.{target-reference}
 use Rattle.lent.specs.Lent.{cells_by, number_in, lent_node, lent_cells, lent_diagram}
 use Rattle.lent.proofs.Nodes.{cells-length, cell_at}
-use Rattle.canonical.specs.declared.walk.Numbered.TheVariants.{Next, Broken}
+use Rattle.std.proofs.Common.{Some, None}
 use Rattle.canonical.specs.Inner.Walk.{stands_at, lent_standing, lent_spread, is_below, followed}
 
 -- the numbering does not depend on the roots
@@ -86,7 +86,7 @@ module _ (count : ℕ) (cells : List ℕ) where
           && numbered true (lent_cells count cells) d (suc p) (next + length s) (firsts eqb l))
           (lent-standing ks t) (lent-spread ks t)
 
-      pub numbered-broken : followed cells p next ks ≡ Broken → numbered true (lent_cells count cells) (suc d) p next ks ≡ false
+      pub numbered-broken : followed cells p next ks ≡ None → numbered true (lent_cells count cells) (suc d) p next ks ≡ false
       unfolding followed
       numbered-broken f =
           let s = lent_standing cells p ks in
@@ -94,7 +94,7 @@ module _ (count : ℕ) (cells : List ℕ) where
           (λ e. let z : ◌≡◌ {A = ℕ} 0 1 = cc in absurd (omega arith))
           (λ e. level ∙ rw e)
 
-      pub numbered_next : (after : ℕ) → followed cells p next ks ≡ Next after
+      pub numbered_next : (after : ℕ) → followed cells p next ks ≡ Some after
           → numbered true (lent_cells count cells) (suc d) p next ks
           ≡ numbered true (lent_cells count cells) d (suc p) after (firsts eqb (lent_spread cells p ks))
       unfolding followed
@@ -106,7 +106,7 @@ module _ (count : ℕ) (cells : List ℕ) where
           (λ e. let z : ◌≡◌ {A = ℕ} 0 1 = cc in absurd (omega arith))
 
 -- a node of the list at most brings the number one further
-pub after-bound : (cells : List ℕ) (p next after : ℕ) (ks : List ℕ) → followed cells p next ks ≡ Next after → after ≤ next + length ks
+pub after-bound : (cells : List ℕ) (p next after : ℕ) (ks : List ℕ) → followed cells p next ks ≡ Some after → after ≤ next + length ks
 unfolding followed
 after-bound cells p next after ks f =
     let s = lent_standing cells p ks in

@@ -47,22 +47,6 @@ roots-turn roots j r h e ks f =
 -- nodes
 
 module _ (cells : List ℕ) (p : ℕ) where
-  -- node k alone, of whose numbers l is the level, a and b the edges
-  module _ (k l : ℕ) (level : l ≡ get_or cells (3 * k) 0) where
-    pub spread-other : (l ≡ p → ⊥) → lent_spread cells p (k ∷ []) ≡ k ∷ []
-    spread-other n = rw (← level, ne_eqb l p n)
-
-    pub spread-stands : l ≡ p → (a b : ℕ) → a ≡ get_or cells (3 * k + 1) 0 → b ≡ get_or cells (3 * k + 2) 0 → (ks js : List ℕ)
-        → js ≡ arrived_all ks (targets true a)
-        → arrived_all js (targets true b) ≡ arrived_all ks (lent_spread cells p (k ∷ []))
-    spread-stands e a b low high ks js f =
-        ap (λ (x : List ℕ). arrived_all x (targets true b)) f ∙ sym (arrived_all-append ks (targets true a) (targets true b))
-        ∙ ap (arrived_all ks) (sym whole)
-      where
-        whole : lent_spread cells p (k ∷ []) ≡ targets true a ++ targets true b
-        whole =
-            rw (← level, eq-eqb l p e, ← low, ← high) (ap (λ (x : List ℕ). targets true a ++ x) (append-nil (targets true b)))
-
   spread-append : (xs ys : List ℕ) → lent_spread cells p (xs ++ ys) ≡ lent_spread cells p xs ++ lent_spread cells p ys
   spread-append [] ys = refl
   spread-append (k ∷ xs) ys =

@@ -8,7 +8,7 @@ use native.Mathlib.Omega.{arith}
 use borrow.Author.Tests.{eq-eqb, ne_eqb}
 use lib.Dec.{T, eqb}
 use lib.ListN.{length, get_or, take, drop, length-append}
-use lib.Seq.{take-take, get_or-take, length-take-le, split_at, get_or-append_seam}
+use lib.Seq.{length-take-le, take-length, split_at, get_or-append_seam}
 use Rattle.lists.specs.Lists.{equal}
 use Rattle.lists.proofs.Lists.Equal.{numbers-equality}
 use Rattle.lists.proofs.Bools.{split, of_T, to-T}
@@ -17,7 +17,7 @@ use Rattle.lists.proofs.Lists.Less.{keep_append}
 use Rattle.lists.proofs.Numbers.UpTo.{map-up_to-more, get_or-map-up_to}
 use Rattle.lists.proofs.Lists.Grown.{take_more}
 use Rattle.diagram.specs.Canonical.Structure.{range}
-use Rattle.canonical.specs.declared.walk.Numbered.TheVariants.{Next, Broken}
+use Rattle.std.proofs.Common.{Some, None}
 use Rattle.canonical.specs.Inner.Walk.{stands_at, lent_standing, followed}
 
 -- the first i of the nodes seen: those that stand at level p are the next ones, and `after` is the number after them
@@ -26,23 +26,18 @@ pub record Follows (cells : List ℕ) (p next : ℕ) (seen : List ℕ) (i after 
   pub counted : after ≡ next + length (lent_standing cells p (take i seen))
 
 module _ (cells : List ℕ) (p next : ℕ) (seen : List ℕ) where
-  pub follows-none : Follows cells p next seen 0 next
-  follows-none = record { in_turn = refl; counted = omega arith }
-
   module _ (i after : ℕ) (F : Follows cells p next seen i after) where
-    pub follows-bound : i ≤ length seen → after ≤ next + i
-    follows-bound h =
-        omega (arith, F.counted, keep-length (stands_at cells p) (take i seen), length-take-le i seen h)
-
     -- the nodes seen are those of the whole list
-    pub follows-end : (len : ℕ) → i ≡ len → Next after ≡ followed cells p next (take len seen)
+    pub follows-end : i ≡ length seen → Some after ≡ followed cells p next seen
     unfolding followed
-    follows-end len e =
-        subst (λ (n : ℕ). Next after ≡ followed cells p next (take n seen)) e
-        (let s = lent_standing cells p (take i seen) in
+    follows-end e =
+        let whole : take i seen ≡ seen = rw e (take-length seen) in
+        let s = lent_standing cells p seen in
+        let F' = subst (λ (l : List ℕ). (lent_standing cells p l ≡ range next (length (lent_standing cells p l)))
+        × (after ≡ next + length (lent_standing cells p l))) whole (F.in_turn, F.counted) in
         let t : equal eqb s (range next (length s)) ≡ true =
-        of_T (subst (λ (l : List ℕ). T (equal eqb s l)) F.in_turn (numbers-equality.self s)) in
-        rw t (ap Next F.counted))
+        of_T (subst (λ (l : List ℕ). T (equal eqb s l)) F'.0 (numbers-equality.self s)) in
+        rw t (ap Some F'.1)
 
     -- the next node, k, of whose numbers l is the level
     module _ (h : i < length seen) (k l : ℕ) (node : k ≡ get_or seen i 0) (level : l ≡ get_or cells (3 * k) 0) where
@@ -76,31 +71,26 @@ module _ (cells : List ℕ) (p next : ℕ) (seen : List ℕ) where
             }
 
         -- another number than the next
-        pub follows-broken : (len : ℕ) → i < len → len ≤ length seen → (k ≡ after → ⊥) → Broken ≡ followed cells p next (take len seen)
+        pub follows-broken : (k ≡ after → ⊥) → None ≡ followed cells p next seen
         unfolding followed
-        follows-broken len g f n =
+        follows-broken n =
             let s = lent_standing cells p (take i seen) in
-            let w = lent_standing cells p (take len seen) in
-            let rest = lent_standing cells p (drop (suc i) (take len seen)) in
-            let parted : w ≡ s ++ (k ∷ rest) = parts len g f in
+            let w = lent_standing cells p seen in
+            let rest = lent_standing cells p (drop (suc i) seen) in
             let t : equal eqb w (range next (length w)) ≡ false =
             split (equal eqb w (range next (length w)))
             (λ q. absurd (n
-            (sym (get_or-append_seam s k rest 0) ∙ ap (λ (x : List ℕ). get_or x (length s) 0) (sym parted)
+            (sym (get_or-append_seam s k rest 0) ∙ ap (λ (x : List ℕ). get_or x (length s) 0) (sym parts)
             ∙ ap (λ (x : List ℕ). get_or x (length s) 0) (numbers-equality.sound w (range next (length w)) (to-T q))
             ∙ get_or-map-up_to (λ j. next + j) (length w) (length s) 0
-            (omega (arith, ap length parted, length-append s (k ∷ rest)))
+            (omega (arith, ap length parts, length-append s (k ∷ rest)))
             ∙ sym F.counted)))
             (λ q. q) in
             rw t
           where
-            parts : (len : ℕ) → i < len → len ≤ length seen
-                → lent_standing cells p (take len seen)
-                ≡ lent_standing cells p (take i seen) ++ (k ∷ lent_standing cells p (drop (suc i) (take len seen)))
-            parts len g f =
-                let z = drop (suc i) (take len seen) in
-                ap (lent_standing cells p)
-                (split_at (take len seen) i 0 (omega (arith, length-take-le len seen f))
-                ∙ ap₂ (λ (x : List ℕ) (y : ℕ). x ++ (y ∷ z)) (take-take i len seen (omega arith)) (get_or-take len seen i 0 g ∙ sym node))
+            parts : lent_standing cells p seen ≡ lent_standing cells p (take i seen) ++ (k ∷ lent_standing cells p (drop (suc i) seen))
+            parts =
+                let z = drop (suc i) seen in
+                ap (lent_standing cells p) (split_at seen i 0 h ∙ ap (λ (y : ℕ). take i seen ++ (y ∷ z)) (sym node))
                 ∙ keep_append (stands_at cells p) (take i seen) (k ∷ z)
                 ∙ ap (λ (x : List ℕ). lent_standing cells p (take i seen) ++ x) (rw (← level, eq-eqb l p stands))

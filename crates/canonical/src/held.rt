@@ -11,8 +11,7 @@ use crate::walk::numbers_rise;
 use diagram::NODES;
 use lent::ROOTS;
 use lent::cells::good_cells;
-use table::valid::holds_network;
-use table::{Answer, State};
+use table::{Answer, Refusal, State};
 
 // Whether no node is redundant, none stands twice, and the numbering is section 4's.
 fn is_structured(cells: &[u16], count: usize, roots: &[u16], n: usize, m: usize) -> bool
@@ -33,20 +32,20 @@ pub fn test_held(state: State, roots: &[u16], cells: &[u16]) -> Answer
     ensures { result ≡ canonical_answer state roots.now cells.now }
 {
     if roots.len() < ROOTS {
-        return Answer::ShortBuffer;
+        return Err(Refusal::ShortBuffer);
     }
-    if !holds_network(state) {
-        return Answer::NoNetwork;
+    if !state.holds_network() {
+        return Err(Refusal::NoNetwork);
     }
     if !good_cells(state, roots, cells) {
-        return Answer::BadCells;
+        return Err(Refusal::BadCells);
     }
     let count = state.count;
     if NODES < count {
-        return Answer::NotCanonical;
+        return Err(Refusal::NotCanonical);
     }
     if !is_structured(cells, count, roots, state.n, state.m) {
-        return Answer::NotCanonical;
+        return Err(Refusal::NotCanonical);
     }
-    Answer::Done(0)
+    Ok(0)
 }

@@ -4,6 +4,3 @@
 pub mod held;
 mod reduced;
 mod walk;
-
-// How many slots the nodes are marked in; specs/Inner/Reduced.antt has the definition, `slots`.
-const SLOTS: usize = 65536;

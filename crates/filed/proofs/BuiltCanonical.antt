@@ -1,5 +1,6 @@
 -- Number 32 never comes up behind a build: what it leaves is section 4's network of what it computes.
 -- Assumes nothing.
+use Rattle.std.specs.Prelude.{Ok}
 use mathlib.Core.Path.{◌≡◌}
 use mathlib.Core.Bool.{not}
 use mathlib.Core.List.{List}
@@ -7,7 +8,6 @@ use Prim.Native.Nat.{ℕ, ◌≤◌}
 use borrow.Author.Tests.{le-leb}
 use lib.Dec.{T}
 use lib.ListN.{length}
-use Rattle.table.specs.declared.Answer.TheVariants.{Done}
 use Rattle.table.specs.declared.State.{State}
 use Rattle.table.specs.State.{stage_of, is_nothing}
 use Rattle.lent.specs.Lent.{roots_size}
@@ -17,7 +17,7 @@ use Rattle.network.proofs.Building.BuiltCanonical.{canonical-built}
 use Rattle.canonical.specs.Canonical.{canonical_answer}
 
 pub answer-built : (s : State) (values care roots cells : List ℕ) → T (not (is_nothing (stage_of s))) → roots_size ≤ length roots
-    → canonical_answer (network_state s (wanted s values care)) (built_roots s values care roots) (built_cells s values care cells) ≡ Done 0
+    → canonical_answer (network_state s (wanted s values care)) (built_roots s values care roots) (built_cells s values care cells) ≡ Ok 0
 unfolding canonical_answer
 answer-built s values care roots cells held h =
     rw (

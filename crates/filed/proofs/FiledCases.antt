@@ -1,17 +1,19 @@
 -- A network file written, or a refusal, by what the writer and the build answer.
 -- Assumes nothing.
+use Rattle.std.specs.Prelude.{Ok, Err, is_ok}
 use mathlib.Core.Path.{◌≡◌, refl, sym, ap, ◌∙◌, subst}
-use mathlib.Core.Bool.{true, false}
+use mathlib.Core.Bool.{true, false, true≢false}
 use mathlib.Core.List.{List, ◌++◌}
 use Prim.Native.Nat.{ℕ, suc, ◌+◌, ◌*◌, ◌-◌, ◌/◌, ◌≤◌, ◌<◌, min}
 use native.Mathlib.Omega.{arith}
 use lib.ListN.{length, drop}
 use Rattle.diagram.specs.Networks.Bound.{most_nodes}
 use Rattle.block.specs.Block.{block_size}
-use Rattle.table.specs.declared.Answer.{Answer}
-use Rattle.table.specs.declared.Outcome.{Outcome}
+use Rattle.table.specs.Answer.{Answer}
+use Rattle.table.specs.declared.Refusal.{Refusal}
+use Rattle.table.specs.declared.Done.{Done}
 use Rattle.table.specs.declared.State.{State}
-use Rattle.table.specs.Answer.{done}
+use Rattle.table.specs.Answer.{Outcome, done, answer_of}
 use Rattle.network_file.specs.File.{block_cells, cell_blocks}
 use Rattle.network_file.specs.Write.{write_answer, write_work, written_file}
 use Rattle.network_file.proofs.Writing.WriteCall.{network-passed, file-fits}
@@ -75,22 +77,29 @@ module _ (s : State) (roots cells work out : List ℕ) where
       written_as (ap refused_line e ∙ rw f refl) (subst (λ (l : List ℕ). Written l after 0 behind (refused_line a)) same w)
 
 -- an outcome's
-module _ (r : Outcome) (roots cells work out : List ℕ) where
+module _ (o : Outcome) (roots cells work out : List ℕ) where
   -- what is written, and the work buffer
   abbrev pub Filed : List ℕ → ℕ → List ℕ → Type 0
   Filed after behind work' =
-      Written out after 0 behind (outcome_file r roots cells work out) × (work' ≡ outcome_work r roots cells work out)
+      Written out after 0 behind (outcome_file o roots cells work out) × (work' ≡ outcome_work o roots cells work out)
 
-  pub filed-unbuilt : {after : List ℕ} {behind : ℕ} → done r.answer ≡ false → Written out after 0 behind (refused_line r.answer)
+  pub filed-unbuilt : {after : List ℕ} {behind : ℕ} (x : Refusal) → o ≡ Err x → Written out after 0 behind (refused_line (Err x))
       → Filed after behind work
   unfolding outcome_file outcome_work
-  filed-unbuilt d w = (written_as (rw d refl) w, rw d refl)
+  filed-unbuilt x d w = (written_as (rw d refl) w, rw d refl)
 
-  pub filed-built : {after : List ℕ} {behind : ℕ} (work' : List ℕ) → done r.answer ≡ true
+  pub filed-built : {after : List ℕ} {behind : ℕ} (work' : List ℕ) (r : Done) → o ≡ Ok r
       → Written out after 0 behind (held_file r.state roots cells work out) → work' ≡ write_work r.state roots cells work out
       → Filed after behind work'
   unfolding outcome_file outcome_work
-  filed-built work' d w e = (written_as (rw d refl) w, rw d e)
+  filed-built work' r d w e = (written_as (rw d refl) w, rw d e)
+
+-- a refusal's line, and the work buffer as found
+pub unbuilt-file : (o : Outcome) (roots cells work out : List ℕ) → is_ok o ≡ false
+    → (outcome_file o roots cells work out ≡ refused_line (answer_of o)) × (outcome_work o roots cells work out ≡ work)
+unfolding outcome_file outcome_work
+unbuilt-file (Ok r) roots cells work out d = absurd (true≢false d)
+unbuilt-file (Err x) roots cells work out d = (refl, refl)
 
 -- of what an input leaves
 module _ (file values care work roots cells out : List ℕ) (r : Outcome) (work' roots' cells' : List ℕ)

@@ -1,5 +1,6 @@
 -- In buffers of the program's sizes the network file is that of the input alone: the writer never refuses what a build leaves.
 -- Assumes nothing.
+use Rattle.std.specs.Prelude.{Ok, is_ok}
 use mathlib.Core.Path.{◌≡◌, refl, sym, ap, ◌∙◌}
 use mathlib.Core.Bool.{true, false}
 use mathlib.Core.List.{List, [], ◌++◌}
@@ -12,8 +13,8 @@ use Rattle.lists.proofs.Bools.{split, to-not}
 use Rattle.lists.proofs.Written.Over.{length_over, get_d_over}
 use Rattle.diagram.specs.Networks.Bound.{most_nodes}
 use Rattle.diagram.specs.Networks.Diagram.{Diagram}
-use Rattle.table.specs.declared.Answer.TheVariants.{Done}
-use Rattle.table.specs.Answer.{done}
+use Rattle.table.specs.Answer.{done, answer_of}
+use Rattle.table.proofs.Outcomes.{answered-ok}
 use Rattle.table.specs.File.{file_answer}
 use Rattle.table.specs.Calls.{plane_size, loaded_state}
 use Rattle.table.proofs.Held.{few-outputs}
@@ -36,6 +37,7 @@ use Rattle.printed.proofs.Texts.NeverCut.{refused-few}
 use Rattle.filed.specs.NetworkFile.{network_file_bytes, network_file_of, network_output_of}
 use Rattle.filed.specs.Inner.Filed.{held_file, outcome_file, outcome_work, filed_text, filed_work}
 use Rattle.filed.proofs.BuiltCanonical.{answer-built}
+use Rattle.filed.proofs.FiledCases.{unbuilt-file}
 use Rattle.filed.proofs.FileBytes.{file-same, file-length, file-room}
 
 -- an accepted file
@@ -73,7 +75,7 @@ module _ (file : List ℕ) (accepted : done (file_answer file) ≡ true) where
 
     -- is section 4's network, so the writer accepts it
 
-    canonical-file : roots_size ≤ length roots → canonical_answer (network_held file) references numbers ≡ Done 0
+    canonical-file : roots_size ≤ length roots → canonical_answer (network_held file) references numbers ≡ Ok 0
     canonical-file h =
         sym
         (λ i. canonical_answer (network_state (loaded_state file) (wanted-loaded i))
@@ -82,7 +84,7 @@ module _ (file : List ℕ) (accepted : done (file_answer file) ≡ true) where
         ∙ answer-built (loaded_state file) (values_plane file []) (care_plane file []) roots cells (to-not (loaded-held file accepted)) h
 
     pub writes : (work out : List ℕ) → roots_size ≤ length roots → work_size ≤ length work → file_size ≤ length out
-        → write_answer (network_held file) references numbers work out ≡ Done 0
+        → write_answer (network_held file) references numbers work out ≡ Ok 0
     unfolding write_answer
     writes work out r w o =
         rw (
@@ -108,7 +110,7 @@ module _ (file values care work roots cells out : List ℕ) (v : length values �
     accepted = built.accepted file values care work roots cells v c w r k e
 
     written : write_answer (network_held file) (references file accepted roots cells) (numbers file accepted roots cells) (zero_work work) out
-        ≡ Done 0
+        ≡ Ok 0
     written = writes file accepted roots cells (zero_work work) out r (omega (arith, length-zero work w)) o
 
     text-read : filed_text file values care work roots cells out ≡ network_file_of file
@@ -130,17 +132,22 @@ module _ (file values care work roots cells out : List ℕ) (v : length values �
         (λ i. outcome_work (p i) (q i) (s i) (t i) out) ∙ rw written (zero-zero work)
 
   module _ (e : done (input_answer file) ≡ false) where
-    answer : (built_outcome file values care work roots cells).answer ≡ input_answer file
+    answer : answer_of (built_outcome file values care work roots cells) ≡ input_answer file
     answer = built.outcome-unread file values care work roots cells v c w r k e
 
+    unbuilt : is_ok (built_outcome file values care work roots cells) ≡ false
+    unbuilt = sym (answered-ok (built_outcome file values care work roots cells)) ∙ ap done answer ∙ e
+
     text-unread : filed_text file values care work roots cells out ≡ refused_line (input_answer file)
-    unfolding filed_text outcome_file
-    text-unread = rw (ap done answer ∙ e) (ap refused_line answer)
+    unfolding filed_text
+    text-unread =
+        (unbuilt-file (built_outcome file values care work roots cells) _ _ _ out unbuilt).0 ∙ ap refused_line answer
 
     work-unread : filed_work file values care work roots cells out ≡ work
-    unfolding filed_work outcome_work
+    unfolding filed_work
     work-unread =
-        rw (ap done answer ∙ e) (built.work-left file values care work roots cells v c w r k ∙ rw e refl)
+        (unbuilt-file (built_outcome file values care work roots cells) _ _ _ out unbuilt).1
+        ∙ built.work-left file values care work roots cells v c w r k ∙ rw e refl
 
   text-left : filed_text file values care work roots cells out ≡ network_output_of file
   unfolding network_output_of

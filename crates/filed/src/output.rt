@@ -18,7 +18,6 @@ use network_file::write::write_cells;
 use network_file::{BLOCK_CELLS, FILE};
 use printed::built::{CELL_NUMBERS, build_input};
 use printed::refusal::refusal;
-use table::numbers::is_done;
 use table::{Outcome, PLANE, State};
 
 // The blocks of the network file of so many cells, its heading among them; past the most cells there can be, those of the longest file.
@@ -38,7 +37,7 @@ fn write_held(state: State, roots: &[u16], cells: &[u16], work: &mut [u8], out: 
     ensures work { work.new ≡ write_work state roots.now cells.now work.old out.old }
 {
     let answer = write_cells(state, roots, cells, work, out);
-    if !is_done(answer) {
+    if answer.is_err() {
         return refusal(out, answer);
     }
     BLOCK * file_blocks(state.count)
@@ -56,12 +55,10 @@ fn write_outcome(
         (outcome_file outcome roots.now cells.now work.old out.old) }
     ensures work { work.new ≡ outcome_work outcome roots.now cells.now work.old out.old }
 {
-    let answer = outcome.answer;
-    let state = outcome.state;
-    if !is_done(answer) {
-        return refusal(out, answer);
+    match outcome {
+        Ok(built) => write_held(built.state, roots, cells, work, out),
+        Err(refused) => refusal(out, Err(refused)),
     }
-    write_held(state, roots, cells, work, out)
 }
 
 // Reads the table in a program's input, builds its network in the file's order, and writes its file; or the refusal.

@@ -1,6 +1,7 @@
 -- What the calls of this crate answer and leave (document 01, sections 2, 3, 4 and 7).
 -- Assumes nothing.
-use Rattle.std.specs.Prelude.{Bool, true, cond, not, ◌&&◌, List, [], ◌∷◌, map, ℕ, zero, suc, ◌*◌, leb, ltb, eqb, length, get_or, take, drop}
+use Rattle.std.specs.Prelude.{Bool, true, cond, not, ◌&&◌, List, [], ◌∷◌, map, ℕ, zero, suc, ◌*◌, leb, ltb, eqb, length, get_or}
+use Rattle.std.specs.Prelude.{take, drop, Result, Ok}
 use Rattle.lists.specs.Lists.{up_to}
 use Rattle.lists.specs.Written.{splice}
 use Rattle.diagram.specs.Networks.Bound.{most_variables}
@@ -9,10 +10,11 @@ use Rattle.diagram.specs.Filling.Fill.{Row, level, candidates, trace}
 use Rattle.diagram.specs.Networks.Network.{counts}
 use Rattle.diagram.specs.Orders.Order.{moved}
 use Rattle.diagram.specs.Table.{Table, reordered, filled, cost}
-use Rattle.table.specs.declared.Answer.{Answer}
-use Rattle.table.specs.declared.Answer.TheVariants.{Done, ShortBuffer, NoTable}
+use Rattle.table.specs.Answer.{Answer}
+use Rattle.table.specs.declared.Refusal.{Refusal}
+use Rattle.table.specs.declared.Refusal.TheVariants.{ShortBuffer, NoTable}
 use Rattle.table.specs.declared.State.{State}
-use Rattle.table.specs.Answer.{unless, done}
+use Rattle.table.specs.Answer.{unless, unless_refused, done}
 use Rattle.table.specs.Stream.{table_of}
 use Rattle.table.specs.State.{order_of, stage_of, is_nothing}
 use Rattle.table.specs.Calls.{plane_size}
@@ -31,7 +33,7 @@ enough values care work = leb plane_size (length values) && (leb plane_size (len
 unfoldable pub count_answer : State → List ℕ → List ℕ → List ℕ → Answer
 count_answer s values care work =
     unless (enough values care work) ShortBuffer
-    (unless (not (is_nothing (stage_of s))) NoTable (Done (cost (held_table s values care) (order_of s))))
+    (unless (not (is_nothing (stage_of s))) NoTable (Ok (cost (held_table s values care) (order_of s))))
 
 -- the work buffer is zero after a success, as found after a refusal
 unfoldable pub count_work : State → List ℕ → List ℕ → List ℕ → List ℕ
@@ -50,17 +52,18 @@ entry_counts (suc d) fs = length (level true [] fs).entries ∷ entry_counts d (
 abbrev pub per_level : List ℕ → List ℕ
 per_level xs = map (λ k. get_or xs k 0) (up_to most_variables)
 
--- the answer of a count, with the entries and the cells of each level where it is a success
-unfoldable pub levels_of : State → List ℕ → List ℕ → List ℕ → Levels
-levels_of s values care work =
+-- a held table's filling: the cells in all, and the entries and the cells of each level
+unfoldable pub filled_levels : State → List ℕ → List ℕ → Levels
+filled_levels s values care =
     record {
-      answer = count_answer s values care work;
-      entries = per_level (cond (done (count_answer s values care work)) (entry_counts s.n (drawn_outputs s values care)) []);
-      counts =
-          per_level
-          (cond (done (count_answer s values care work))
-          (counts true s.n (filled true (held_table s values care) (order_of s))) []);
+      cells = cost (held_table s values care) (order_of s);
+      entries = per_level (entry_counts s.n (drawn_outputs s values care));
+      counts = per_level (counts true s.n (filled true (held_table s values care) (order_of s)));
     }
+
+-- the same refusals as a count's, then the levels of the filling
+unfoldable pub levels_of : State → List ℕ → List ℕ → List ℕ → Result Levels Refusal
+levels_of s values care work = unless_refused (count_answer s values care work) (Ok (filled_levels s values care))
 
 -- the work buffer with the links of the filling
 unfoldable pub links_work : State → List ℕ → List ℕ → List ℕ → List ℕ
@@ -97,7 +100,7 @@ tried_counts s except values care found (suc k) =
 unfoldable pub trials_answer : State → List ℕ → List ℕ → List ℕ → List ℕ → Answer
 trials_answer s values care found work =
     unless (enough values care work && leb counts_size (length found)) ShortBuffer
-    (unless (not (is_nothing (stage_of s))) NoTable (Done s.n))
+    (unless (not (is_nothing (stage_of s))) NoTable (Ok s.n))
 
 -- the counts after all trials, as found after a refusal
 unfoldable pub trials_counts : State → ℕ → List ℕ → List ℕ → List ℕ → List ℕ → List ℕ

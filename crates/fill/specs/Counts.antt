@@ -1,12 +1,13 @@
 -- The cells of each level, counted from links in a work buffer, whoever put them there: those of m outputs, then those of n levels. An entry
 -- has two links of two bytes each, low byte first, and is a cell where they differ.
 -- Assumes nothing.
-use Rattle.std.specs.Prelude.{Bool, cond, not, ◌&&◌, ℕ, ◌+◌, ◌*◌, eqb, leb, length, get_or, take}
+use Rattle.std.specs.Prelude.{Bool, not, ◌&&◌, ℕ, ◌+◌, ◌*◌, eqb, leb, length, get_or, take, Result, Ok}
 use mathlib.Core.List.{List, [], ◌∷◌, sum}
 use Rattle.lists.specs.Bits.{digit}
 use Rattle.lists.specs.Sums.{sum_below}
 use Rattle.diagram.specs.Networks.Bound.{most_variables, most_outputs}
-use Rattle.table.specs.declared.Answer.TheVariants.{Done, ShortBuffer}
+use Rattle.table.specs.declared.Refusal.{Refusal}
+use Rattle.table.specs.declared.Refusal.TheVariants.{ShortBuffer}
 use Rattle.table.specs.Answer.{unless}
 use Rattle.fill.specs.declared.Levels.{Levels}
 use Rattle.fill.specs.Work.{work_size, links_at}
@@ -40,12 +41,15 @@ links_fit n m entries long =
     leb n most_variables
     && (leb m most_outputs && (leb work_size long && leb (links_end (links_at + 2 * m) (take n entries)) work_size))
 
--- the cells in all, with the entries and the cells of each level
-unfoldable pub linked_levels : ℕ → ℕ → List ℕ → List ℕ → Levels
-linked_levels n m entries work =
+-- the cells in all, with the entries and the cells of each level, where the links lie in the work buffer
+unfoldable pub counted_links : ℕ → ℕ → List ℕ → List ℕ → Levels
+counted_links n m entries work =
     record {
-      answer =
-          unless (links_fit n m entries (length work)) ShortBuffer (Done (sum ◌+◌ 0 (counts_at work (links_at + 2 * m) (take n entries))));
-      entries = cond (links_fit n m entries (length work)) entries (per_level []);
-      counts = per_level (cond (links_fit n m entries (length work)) (counts_at work (links_at + 2 * m) (take n entries)) []);
+      cells = sum ◌+◌ 0 (counts_at work (links_at + 2 * m) (take n entries));
+      entries = entries;
+      counts = per_level (counts_at work (links_at + 2 * m) (take n entries));
     }
+
+-- 10, then the cells
+unfoldable pub linked_levels : ℕ → ℕ → List ℕ → List ℕ → Result Levels Refusal
+linked_levels n m entries work = unless (links_fit n m entries (length work)) ShortBuffer (Ok (counted_links n m entries work))

@@ -13,20 +13,15 @@ pub(crate) fn write_counts(p: usize, levels: [usize; VARIABLES], counts: &mut [u
     ensures { counts.new ≡ splice counts.old (most_variables * p) levels }
 {
     let at = VARIABLES * p;
-    for l in 0..VARIABLES {
-        counts[at + l] = levels[l];
-    }
+    counts[at..at + VARIABLES].copy_from_slice(&levels);
 }
 
 // Puts in the counts of level p, which are known; nothing where there is no such level, or no room for the counts of all.
+#[tactic(auto, unfolding(crate::specs::Calls::counts_put, crate::specs::Calls::counts_size))]
 pub fn put_counts(counts: &mut [usize], p: usize, known: [usize; VARIABLES])
     ensures { counts.new ≡ counts_put p known counts.old }
 {
-    if VARIABLES <= p {
-        return;
+    if p < VARIABLES && COUNTS <= counts.len() {
+        write_counts(p, known, counts);
     }
-    if counts.len() < COUNTS {
-        return;
-    }
-    write_counts(p, known, counts);
 }

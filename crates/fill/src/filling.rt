@@ -3,15 +3,15 @@ ghost use Rattle.std.specs.Prelude.{◌≡◌, true, not, [], ◌≤◌, T, leng
 ghost use Rattle.diagram.specs.Filling.Fill.{level};
 ghost use Rattle.table.specs.State.{stage_of, is_nothing};
 ghost use Rattle.fill.specs.Work.{work_size};
-ghost use Rattle.fill.specs.Calls.{drawn_outputs};
-ghost use Rattle.fill.specs.Inner.Filling.{first_work, filled_work, filled_levels};
+ghost use Rattle.fill.specs.Calls.{drawn_outputs, filled_levels};
+ghost use Rattle.fill.specs.Inner.Filling.{first_work, filled_work};
 
 use crate::cells::{level_counts, total};
 use crate::descent::descend;
 use crate::outputs::{link_outputs, zero};
 use crate::{LINKS, Levels, WORK};
 use reorder::rows::row_map;
-use table::{Answer, State};
+use table::State;
 
 // Level 0 in a work buffer that is made zero. Returns the number of entries.
 pub(crate) fn first_level(state: State, values: &[u8], care: &[u8], work: &mut [u8]) -> usize
@@ -41,9 +41,8 @@ pub(crate) fn fill_held(state: State, values: &[u8], care: &[u8], work: &mut [u8
     let links = LINKS + 2 * m;
     let entries = descend(n, count, links, work);
     let counts = level_counts(n, m, entries, work);
-    let cells = total(counts);
     Levels {
-        answer: Answer::Done(cells),
+        cells: total(counts),
         entries,
         counts,
     }

@@ -14,7 +14,6 @@ ghost use Rattle.fill.specs.Work.{cleared_work};
 ghost use Rattle.fill.specs.Calls.{count_answer, count_work, levels_of, links_work};
 ghost use Rattle.fill.specs.Calls.{trials_answer, trials_counts, trials_work};
 ghost use Rattle.fill.specs.Counts.{linked_levels};
-ghost use Rattle.fill.specs.Inner.Filling.{refused_levels};
 
 use crate::cells::{level_counts, links_fit, total};
 use crate::filling::fill_held;
@@ -22,8 +21,7 @@ use crate::lowering::try_held;
 use crate::outputs::zero;
 use diagram::VARIABLES;
 use matching::REGION;
-use table::valid::holds_table;
-use table::{Answer, PLANE, State};
+use table::{Answer, PLANE, Refusal, State};
 
 // Where the links begin, behind two regions, and the bytes of the work buffer; specs/Work.antt has the definitions, `links_at` and
 // `work_size`.
@@ -40,60 +38,58 @@ const TRIALS: usize = 5 * REGION;
 
 pub const COUNTS: usize = VARIABLES * VARIABLES;
 
-// What a filling answers: the cells in all, and the entries and the cells of each level.
+// What a filling comes to: the cells in all, and the entries and the cells of each level.
 #[derive(Clone, Copy)]
 pub struct Levels {
-    pub answer: Answer,
+    pub cells: usize,
     pub entries: [usize; VARIABLES],
     pub counts: [usize; VARIABLES],
 }
 
-// An answer with no level.
-fn refused(answer: Answer) -> Levels
-    ensures { result ≡ refused_levels answer }
-{
-    Levels {
-        answer,
-        entries: [0usize; VARIABLES],
-        counts: [0usize; VARIABLES],
-    }
-}
-
 // Fills the held table, and leaves the links of its levels in the work buffer. Refuses with 10, then 21; a refusal leaves the work buffer.
-pub fn fill_table(state: State, values: &[u8], care: &[u8], work: &mut [u8]) -> Levels
+pub fn fill_table(
+    state: State,
+    values: &[u8],
+    care: &[u8],
+    work: &mut [u8],
+) -> Result<Levels, Refusal>
     ensures levels { result ≡ levels_of state values.now care.now work.old }
     ensures work { work.new ≡ links_work state values.now care.now work.old }
 {
     if values.len() < PLANE {
-        return refused(Answer::ShortBuffer);
+        return Err(Refusal::ShortBuffer);
     }
     if care.len() < PLANE {
-        return refused(Answer::ShortBuffer);
+        return Err(Refusal::ShortBuffer);
     }
     if work.len() < WORK {
-        return refused(Answer::ShortBuffer);
+        return Err(Refusal::ShortBuffer);
     }
-    if !holds_table(state) {
-        return refused(Answer::NoTable);
+    if !state.holds_table() {
+        return Err(Refusal::NoTable);
     }
-    fill_held(state, values, care, work)
+    Ok(fill_held(state, values, care, work))
 }
 
 // Counts the cells of each of n levels from links in the work buffer, whoever put them there: those of m outputs, then those of the levels,
 // with so many entries each. Refuses with 10 where they don't lie in it.
-pub fn count_links(n: usize, m: usize, entries: [usize; VARIABLES], work: &[u8]) -> Levels
+pub fn count_links(
+    n: usize,
+    m: usize,
+    entries: [usize; VARIABLES],
+    work: &[u8],
+) -> Result<Levels, Refusal>
     ensures { result ≡ linked_levels n m entries work.now }
 {
     if !links_fit(n, m, entries, work.len()) {
-        return refused(Answer::ShortBuffer);
+        return Err(Refusal::ShortBuffer);
     }
     let counts = level_counts(n, m, entries, work);
-    let cells = total(counts);
-    Levels {
-        answer: Answer::Done(cells),
+    Ok(Levels {
+        cells: total(counts),
         entries,
         counts,
-    }
+    })
 }
 
 // Makes a work buffer of its size zero.
@@ -107,17 +103,18 @@ pub fn clear(work: &mut [u8])
 }
 
 // Counts the cells of each level of the held table's network. A success leaves the work buffer zero.
-pub fn count_levels(state: State, values: &[u8], care: &[u8], work: &mut [u8]) -> Levels
+pub fn count_levels(
+    state: State,
+    values: &[u8],
+    care: &[u8],
+    work: &mut [u8],
+) -> Result<Levels, Refusal>
     ensures levels { result ≡ levels_of state values.now care.now work.old }
     ensures work { work.new ≡ count_work state values.now care.now work.old }
 {
-    let levels = fill_table(state, values, care, work);
-    let answer = levels.answer;
-    match answer {
-        Answer::Done(_) => zero(LINKS, LINK_BYTES, work),
-        _ => {}
-    }
-    levels
+    let levels = fill_table(state, values, care, work)?;
+    zero(LINKS, LINK_BYTES, work);
+    Ok(levels)
 }
 
 // Counts the cells of the held table's network.
@@ -125,8 +122,7 @@ pub fn count(state: State, values: &[u8], care: &[u8], work: &mut [u8]) -> Answe
     ensures answer { result ≡ count_answer state values.now care.now work.old }
     ensures work { work.new ≡ count_work state values.now care.now work.old }
 {
-    let levels = count_levels(state, values, care, work);
-    levels.answer
+    Ok(count_levels(state, values, care, work)?.cells)
 }
 
 // Counts the cells of each level with the top variable of the state's order at each level in turn, the others in sequence: those with the
@@ -148,21 +144,21 @@ pub fn try_levels(
         ≡ trials_work state values.now care.now counts.old work.old }
 {
     if values.len() < PLANE {
-        return Answer::ShortBuffer;
+        return Err(Refusal::ShortBuffer);
     }
     if care.len() < PLANE {
-        return Answer::ShortBuffer;
+        return Err(Refusal::ShortBuffer);
     }
     if work.len() < WORK {
-        return Answer::ShortBuffer;
+        return Err(Refusal::ShortBuffer);
     }
     if counts.len() < COUNTS {
-        return Answer::ShortBuffer;
+        return Err(Refusal::ShortBuffer);
     }
-    if !holds_table(state) {
-        return Answer::NoTable;
+    if !state.holds_table() {
+        return Err(Refusal::NoTable);
     }
     try_held(state, except, values, care, counts, work);
     zero(0, TRIALS, work);
-    Answer::Done(state.n)
+    Ok(state.n)
 }

@@ -1,6 +1,8 @@
 // The top variable of an order at each level in turn. The entries of the levels above it are kept, in two regions in turn; below it the
 // levels are made from them in two regions of their own, and only counted.
-ghost use Rattle.std.specs.Prelude.{◌≡◌, cond, not, ◌⊎◌, suc, ◌+◌, ◌*◌, ◌-◌, ◌≤◌, ◌<◌, T, eqb, length, set, take, drop};
+//
+// What holds of the work buffer stands in each contract: it is lent as a `&mut`, and a struct with a ghost field beside one isn't covered.
+ghost use Rattle.std.specs.Prelude.{◌≡◌, [], cond, not, suc, ◌+◌, ◌*◌, ◌-◌, ◌≤◌, ◌<◌, T, eqb, length, set, take, drop};
 ghost use Rattle.lists.specs.Written.{splice};
 ghost use Rattle.diagram.specs.Networks.Bound.{most_variables};
 ghost use Rattle.diagram.specs.Networks.Trace.{differing};
@@ -8,13 +10,14 @@ ghost use Rattle.table.specs.State.{stage_of, is_nothing};
 ghost use Rattle.matching.specs.Links.{region_size};
 ghost use Rattle.fill.specs.Work.{work_size, links_at, trials_size};
 ghost use Rattle.fill.specs.Calls.{per_level, counts_size, tried_counts};
+ghost use Rattle.fill.specs.Counts.{differing_pairs};
 ghost use Rattle.matching.specs.Level.{parts_at};
 ghost use Rattle.fill.specs.Inner.Descent.{roomy};
-ghost use Rattle.fill.specs.Inner.Lowering.{first_parts, lowered_below, counts_from};
+ghost use Rattle.fill.specs.Inner.Lowering.{first_regions, first_parts, level_links_at, lowered_below, counts_from};
 
 use crate::cells::differing_pairs;
 use crate::counts::write_counts;
-use crate::fitting::{exchange_kept, level};
+use crate::fitting::{Entries, exchange_kept, level};
 use crate::outputs::link_outputs;
 use diagram::VARIABLES;
 use matching::REGION;
@@ -26,44 +29,39 @@ const DOWN: usize = 2 * REGION;
 
 const LEVEL_LINKS: usize = 4 * REGION;
 
-// The kept entries: where they lie, how many they are, and the cells of each level above them.
+// The kept entries, in one of the first two regions, and the cells of each level above them.
 #[derive(Clone, Copy)]
 pub(crate) struct Kept {
-    pub from: usize,
-    pub entries: usize,
+    pub entries: Entries,
     pub above: [usize; VARIABLES],
+    ghost in_region: { T (first_regions entries.from) },
 }
 
-// Counts the cells of the levels from p on, below the count entries of d variables at from, which stay as they are.
-pub(crate) fn count_below(
-    p: usize,
-    d: usize,
-    from: usize,
-    count: usize,
-    above: [usize; VARIABLES],
-    work: &mut [u8],
-) -> [usize; VARIABLES]
-    requires d_bound { (p + d ≤ most_variables) × (above ≡ per_level (take p above)) }
-    requires region_size_bound { (from + region_size ≤ links_at) × (work_size ≤ length work.old) }
-    requires t { T (roomy d (parts_at d count from work.old)) }
-    ensures counts { result ≡ counts_from p d above (parts_at d count from work.old) }
+// The cells of a level of so many entries, by the links of the one level that are in the work buffer.
+fn cells_of(entries: usize, work: &[u8]) -> usize
+    requires { level_links_at + 4 * entries ≤ length work.now }
+    ensures { result ≡ differing_pairs work.now level_links_at entries }
+{
+    differing_pairs(&work[LEVEL_LINKS..LEVEL_LINKS + 4 * entries])
+}
+
+// Counts the cells of the levels from p on, below the kept entries of d variables, which stay as they are.
+pub(crate) fn count_below(p: usize, d: usize, kept: Kept, work: &mut [u8]) -> [usize; VARIABLES]
+    requires levels_left { (p + d ≤ most_variables) × (kept.above ≡ per_level (take p kept.above)) }
+    requires long_work { work_size ≤ length work.old }
+    requires has_room { T (roomy d (parts_at d kept.entries.count kept.entries.from work.old)) }
+    ensures counts { result ≡ counts_from p d kept.above (parts_at d kept.entries.count kept.entries.from work.old) }
     ensures kept { take links_at work.new ≡ take links_at work.old }
     ensures behind { drop trials_size work.new ≡ drop trials_size work.old }
 {
-    let mut counts = above;
-    let mut l = p;
-    let mut e = d;
-    let mut a = from;
+    let mut counts = kept.above;
+    let mut entries = kept.entries;
     let mut to = DOWN;
-    let mut k = count;
-    while 0 < e {
-        e -= 1;
-        let next = level(e, a, k, to, LEVEL_LINKS, work);
-        counts[l] = differing_pairs(work, LEVEL_LINKS, k);
-        l += 1;
-        a = to;
+    for e in (0..d).rev() {
+        let below = level(e, entries, to, LEVEL_LINKS, work);
+        counts[p + d - 1 - e] = cells_of(entries.count, work);
+        entries = below;
         to = 5 * REGION - to;
-        k = next;
     }
     counts
 }
@@ -77,68 +75,64 @@ pub(crate) fn count_kept(
     counts: &mut [usize],
     work: &mut [u8],
 )
-    requires d_bound { (p + d ≤ most_variables) × (p < most_variables) × (kept.above ≡ per_level (take p kept.above)) }
-    requires region_size_bound { (kept.from + region_size ≤ links_at) × (work_size ≤ length work.old) × (counts_size ≤ length counts.old) }
-    requires t { T (roomy d (parts_at d kept.entries kept.from work.old)) }
+    requires levels_left { (p + d ≤ most_variables) × (p < most_variables) × (kept.above ≡ per_level (take p kept.above)) }
+    requires long_buffers { (work_size ≤ length work.old) × (counts_size ≤ length counts.old) }
+    requires has_room { T (roomy d (parts_at d kept.entries.count kept.entries.from work.old)) }
     ensures counts { counts.new
         ≡ cond (eqb p except) counts.old
         (splice counts.old (most_variables * p)
-        (counts_from p d kept.above (parts_at d kept.entries kept.from work.old))) }
+        (counts_from p d kept.above (parts_at d kept.entries.count kept.entries.from work.old))) }
     ensures kept { take links_at work.new ≡ take links_at work.old }
     ensures behind { drop trials_size work.new ≡ drop trials_size work.old }
 {
     if p == except {
         return;
     }
-    let above = kept.above;
-    let levels = count_below(p, d, kept.from, kept.entries, above, work);
+    let levels = count_below(p, d, kept, work);
     write_counts(p, levels, counts);
 }
 
 // The variable goes below level p: the kept entries, of d + 2 variables, have it exchanged with the next one, and the level below them is
 // kept in their stead.
 pub(crate) fn lower(d: usize, p: usize, kept: Kept, work: &mut [u8]) -> Kept
-    requires d_bound { (d + 2 ≤ most_variables) × (p < most_variables) }
-    requires fact { ((kept.from ≡ 0) ⊎ (kept.from ≡ region_size)) × (work_size ≤ length work.old) }
-    requires t { T (roomy (suc (suc d)) (parts_at (suc (suc d)) kept.entries kept.from work.old))
-        × T (roomy (suc d) (lowered_below d (parts_at (suc (suc d)) kept.entries kept.from work.old)).parts) }
-    ensures from { result.from ≡ region_size - kept.from }
-    ensures entries { result.entries
-        ≡ length (lowered_below d (parts_at (suc (suc d)) kept.entries kept.from work.old)).parts }
+    requires levels_left { (d + 2 ≤ most_variables) × (p < most_variables) }
+    requires long_work { work_size ≤ length work.old }
+    requires has_room { T (roomy (suc (suc d)) (parts_at (suc (suc d)) kept.entries.count kept.entries.from work.old))
+        × T (roomy (suc d) (lowered_below d (parts_at (suc (suc d)) kept.entries.count kept.entries.from work.old)).parts) }
+    ensures from { result.entries.from ≡ region_size - kept.entries.from }
+    ensures entries { result.entries.count
+        ≡ length (lowered_below d (parts_at (suc (suc d)) kept.entries.count kept.entries.from work.old)).parts }
     ensures above { result.above
         ≡ set kept.above p
-        (differing (lowered_below d (parts_at (suc (suc d)) kept.entries kept.from work.old)).links) }
-    ensures parts { parts_at (suc d) result.entries result.from work.new
-        ≡ (lowered_below d (parts_at (suc (suc d)) kept.entries kept.from work.old)).parts }
+        (differing (lowered_below d (parts_at (suc (suc d)) kept.entries.count kept.entries.from work.old)).links) }
+    ensures parts { parts_at (suc d) result.entries.count result.entries.from work.new
+        ≡ (lowered_below d (parts_at (suc (suc d)) kept.entries.count kept.entries.from work.old)).parts }
     ensures behind { drop trials_size work.new ≡ drop trials_size work.old }
 {
-    let from = kept.from;
-    let k = kept.entries;
+    let upper = kept.entries;
     let mut above = kept.above;
-    exchange_kept(d, from, k, work);
-    let to = REGION - from;
-    let entries = level(d + 1, from, k, to, LEVEL_LINKS, work);
-    above[p] = differing_pairs(work, LEVEL_LINKS, k);
-    Kept {
-        from: to,
-        entries,
-        above,
-    }
+    exchange_kept(d, upper, work);
+    let entries = level(d + 1, upper, REGION - upper.from, LEVEL_LINKS, work);
+    above[p] = cells_of(upper.count, work);
+    Kept { entries, above }
 }
 
-// The outputs' entries under the state's order, in the first region. Returns how many they are.
-pub(crate) fn first_kept(state: State, values: &[u8], care: &[u8], work: &mut [u8]) -> usize
-    requires t { T (not (is_nothing (stage_of state))) }
-    requires work_size_in_bounds { work_size ≤ length work.old }
-    ensures entries { result ≡ length (first_parts state values.now care.now) }
-    ensures parts { parts_at state.n result 0 work.new ≡ first_parts state values.now care.now }
+// What is kept at first: the outputs' entries under the state's order, in the first region, and no level above them.
+pub(crate) fn first_kept(state: State, values: &[u8], care: &[u8], work: &mut [u8]) -> Kept
+    requires has_table { T (not (is_nothing (stage_of state))) }
+    requires long_work { work_size ≤ length work.old }
+    ensures from { result.entries.from ≡ 0 }
+    ensures entries { result.entries.count ≡ length (first_parts state values.now care.now) }
+    ensures above { result.above ≡ per_level [] }
+    ensures parts { parts_at state.n result.entries.count 0 work.new ≡ first_parts state values.now care.now }
     ensures behind { drop trials_size work.new ≡ drop trials_size work.old }
 {
-    let n = state.n;
-    let m = state.m;
-    let order = state.order;
-    let rows = row_map(order, n);
-    link_outputs(n, m, values, care, rows, work)
+    let rows = row_map(state.order, state.n);
+    let count = link_outputs(state.n, state.m, values, care, rows, work);
+    Kept {
+        entries: Entries { from: 0, count },
+        above: [0; VARIABLES],
+    }
 }
 
 // All trials of a held table: with the variable at each level in turn, from the top down.
@@ -150,26 +144,20 @@ pub(crate) fn try_held(
     counts: &mut [usize],
     work: &mut [u8],
 )
-    requires t { T (not (is_nothing (stage_of state))) }
-    requires work_size_in_bounds { (work_size ≤ length work.old) × (counts_size ≤ length counts.old) }
+    requires has_table { T (not (is_nothing (stage_of state))) }
+    requires long_buffers { (work_size ≤ length work.old) × (counts_size ≤ length counts.old) }
     ensures counts { counts.new
         ≡ tried_counts state except values.now care.now counts.old state.n }
     ensures behind { drop trials_size work.new ≡ drop trials_size work.old }
 {
-    let entries = first_kept(state, values, care, work);
-    if state.n == 0 {
+    let mut kept = first_kept(state, values, care, work);
+    let n = state.n;
+    if n == 0 {
         return;
     }
-    let mut kept = Kept {
-        from: 0,
-        entries,
-        above: [0usize; VARIABLES],
-    };
-    let mut p = 0;
-    while p + 1 < state.n {
-        count_kept(p, state.n - p, except, kept, counts, work);
-        kept = lower(state.n - p - 2, p, kept, work);
-        p += 1;
+    for p in 0..n - 1 {
+        count_kept(p, n - p, except, kept, counts, work);
+        kept = lower(n - p - 2, p, kept, work);
     }
-    count_kept(p, 1, except, kept, counts, work);
+    count_kept(n - 1, 1, except, kept, counts, work);
 }

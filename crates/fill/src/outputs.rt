@@ -11,7 +11,7 @@ ghost use Rattle.matching.specs.Level.{parts_at, written};
 ghost use Rattle.reorder.specs.Gather.{gathered_part};
 
 use crate::LINKS;
-use crate::fitting::link_part;
+use crate::fitting::{Entries, link_part};
 use reorder::ROWS;
 use reorder::gather::gather_output;
 use reorder::width::width_of;
@@ -21,11 +21,11 @@ pub(crate) fn zero(from: usize, count: usize, l: &mut [u8])
     requires { from + count ≤ length l.old }
     ensures { l.new ≡ splice l.old from (replicate count 0) }
 {
-    for j in 0..count {
-        l[from + j] = 0;
-    }
+    l[from..from + count].fill(0);
 }
 
+// The planes and the rows go on to `gather_output`, which takes them one by one: a struct of them would be taken apart again.
+//
 // Links output j among the k entries in the first region, and writes its link. Returns the number of entries.
 pub(crate) fn link_output(
     n: usize,
@@ -36,8 +36,8 @@ pub(crate) fn link_output(
     rows: [u16; ROWS],
     work: &mut [u8],
 ) -> usize
-    requires n_le_most_variables { (n ≤ most_variables) × (j < most_outputs) × ((k + 1) * (width n + width n) ≤ region_size) }
-    requires work_size_in_bounds { work_size ≤ length work.old }
+    requires in_bounds { (n ≤ most_variables) × (j < most_outputs) × ((k + 1) * (width n + width n) ≤ region_size) }
+    requires long_work { work_size ≤ length work.old }
     ensures entries { result
         ≡ length (level_parts (width n) (parts_at n k 0 work.old)
         (gathered_part values.now care.now rows n j ∷ [])).parts }
@@ -48,8 +48,8 @@ pub(crate) fn link_output(
     let part = gather_output(values, care, rows, n, j);
     let w = width_of(n);
     let s = w + w;
-    let l = LINKS + 2 * j;
-    link_part(n, &part[0..s], 0, k, l, work)
+    let entries = Entries { from: 0, count: k };
+    link_part(n, &part[..s], entries, LINKS + 2 * j, work)
 }
 
 // Links the m outputs among the entries in the first region, of which there are none yet. Returns the number of entries.
@@ -61,8 +61,8 @@ pub(crate) fn link_outputs(
     rows: [u16; ROWS],
     work: &mut [u8],
 ) -> usize
-    requires n_le_most_variables { (n ≤ most_variables) × (m ≤ most_outputs) }
-    requires work_size_in_bounds { work_size ≤ length work.old }
+    requires in_bounds { (n ≤ most_variables) × (m ≤ most_outputs) }
+    requires long_work { work_size ≤ length work.old }
     ensures entries { result
         ≡ length (level_parts (width n) []
         (map (gathered_part values.now care.now rows n) (up_to m))).parts }

@@ -20,6 +20,7 @@ pub fn read_full<R: Read>(reader: &mut R, buf: &mut [u8]) -> Result<usize>
     ensures retried { IfErr result (λ e. error_kind e ≢ ErrorKind.Interrupted) }
 {
     let mut filled = 0;
+    // std's `read_exact` tells nothing of what it read before an `Err`, and is an `Err` at a short input.
     while filled < buf.len() {
         let count = read_once(reader, &mut buf[filled..])?;
         // A short read is no end: a pipe gives what it has.

@@ -1,29 +1,33 @@
--- What evaluation answers, one test after the other, and what the tests that were passed say of the lent cells.
+-- What the tests that were passed say of the state, the lent cells and the roots, and what evaluation then answers.
 -- Assumes nothing.
-use mathlib.Core.Path.{◌≡◌, refl, sym, ap, ◌∙◌}
+use Rattle.std.specs.Prelude.{Ok}
+use mathlib.Core.Path.{◌≡◌, refl, ap, ◌∙◌}
 use mathlib.Core.Bool.{Bool, true, false, not, cond, and-false}
-use mathlib.Core.List.{List, []}
+use mathlib.Core.List.{List}
 use Prim.Native.Nat.{ℕ, zero, suc, ◌*◌, ◌/◌, ◌%◌, ◌^◌, ◌≤◌, ◌<◌}
 use native.Mathlib.Nat.{min-eq_right, le_of_lt}
 use native.Mathlib.Omega.{arith}
-use borrow.Author.Tests.{lt-ltb, le-ltb, le-leb, lt-leb, ne_eqb}
+use borrow.Author.Tests.{lt-ltb, le-leb, lt-leb, ne_eqb}
 use lib.Dec.{T, eqb, ltb, leb, leb→le}
 use lib.ListN.{length, get_or, take, length-take}
-use Rattle.lists.specs.Bits.{flip, packed}
+use lib.Seq.{take-length, length-take-le}
+use Rattle.lists.specs.Bits.{flip}
 use Rattle.lists.proofs.Bools.{to-T, and_l, and_r}
+use lib.Pow.{pow_mono}
 use Rattle.lists.proofs.Bits.Digits.{one_shifted}
+use Rattle.lists.proofs.Bits.Packed.{packed_lt}
 use Rattle.diagram.specs.Networks.Diagram.{Node, inverts, well_formed, gives}
 use Rattle.diagram.specs.Networks.Bound.{most_variables, most_outputs}
 use Rattle.diagram.specs.Orders.Order.{row_under}
 use Rattle.diagram.proofs.Networks.Evaluate.{formed-roots, formed-nodes}
-use Rattle.table.specs.declared.Answer.TheVariants.{Done, ShortBuffer, NoNetwork, NoRow, BadCells}
 use Rattle.table.specs.declared.Stage.{Stage}
 use Rattle.table.specs.declared.Stage.TheVariants.{Nothing, Table as AtTable, Network}
 use Rattle.table.specs.declared.State.{State}
 use Rattle.table.specs.State.{order_of, stage_of, is_nothing, is_network}
 use Rattle.table.proofs.Held.{few-inputs, few-outputs, ordered}
-use Rattle.lent.specs.Lent.{cells_by, lent_cells, lent_diagram, roots_size}
-use Rattle.lent.specs.Inner.Cells.{Followable, Rooted, output_at}
+use Rattle.lent.specs.Lent.{cells_by, lent_diagram, roots_size}
+use Rattle.lent.specs.Inner.Cells.{Followable, Rooted}
+use Rattle.lent.specs.Inner.Tabulate.{Evaluable}
 use Rattle.lent.specs.Evaluate.{good_cells, row_outputs, evaluate_answer}
 
 pub network-held : (t : Stage) → T (is_network t) → T (not (is_nothing t))
@@ -39,14 +43,10 @@ gives-roots cs rs rs' a zero r = refl
 gives-roots cs rs rs' a (suc k) r =
     ap (λ (b : Bool). cond (ltb r 2) (eqb r 1) (flip (inverts true r) b)) (gives-roots cs rs rs' a k _)
 
--- the outputs of the lent diagram are those of its cells
-pub outputs-row : (s : State) (row : ℕ) (roots cells : List ℕ)
-    → packed s.m (output_at s.n s.count s.order cells row roots) ≡ row_outputs s row roots cells
-unfolding row_outputs output_at lent_diagram cells_by
-outputs-row s row roots cells =
-    ap (packed s.m)
-    (λ i j. gives-roots (lent_cells s.count cells).nodes [] (take s.m roots) (row_under s.n (order_of s) row) s.n
-    (get_or roots j 0) i)
+-- each output is a bit, so they fit 16 bits
+pub outputs-small : (s : State) (row : ℕ) (roots cells : List ℕ) → s.m ≤ most_outputs → row_outputs s row roots cells < 65536
+unfolding row_outputs
+outputs-small s row roots cells few = omega (arith, packed_lt s.m (λ j. gives true (lent_diagram s.count s.m cells roots) (row_under s.n (order_of s) row) s.n (get_or roots j 0)), pow_mono {i = s.m} {j = most_outputs} few)
 
 -- number 24: the cells are enough for the count, and with the roots well-formed
 module _ (s : State) (roots cells : List ℕ) where
@@ -66,6 +66,15 @@ module _ (s : State) (roots cells : List ℕ) where
       let short : length (take s.m roots) ≡ length roots = length-take s.m roots ∙ min-eq_right (le_of_lt h) in
       rw (ne_eqb (length (take s.m roots)) s.m (λ e. omega arith)) (and-false (leb s.count (length cells / 3)))
 
+  -- with the first roots in hand
+  pub first-roots : s.count ≤ length cells / 3 → s.m ≤ length roots
+      → well_formed true s.n (length (take s.m roots)) (lent_diagram s.count (length (take s.m roots)) cells (take s.m roots))
+      ≡ good_cells s roots cells
+  unfolding good_cells lent_diagram
+  first-roots h k =
+      let e = length-take-le s.m roots k in
+      rw (le-leb s.count (length cells / 3) h, take-length (take s.m roots), e)
+
   module _ (good : good_cells s roots cells ≡ true) where
     good-enough : s.count ≤ length cells / 3
     unfolding good_cells
@@ -75,67 +84,48 @@ module _ (s : State) (roots cells : List ℕ) where
     unfolding good_cells
     good-formed = and_r (leb s.count (length cells / 3)) _ (to-T good)
 
--- a network is held, and no root is missing
-module _ (s : State) (roots cells : List ℕ) (long : most_outputs ≤ length roots) (held : is_network (stage_of s) ≡ true) where
+-- a network is held
+module _ (s : State) (held : is_network (stage_of s) ≡ true) where
   table : T (not (is_nothing (stage_of s)))
   table = network-held (stage_of s) (to-T held)
 
-  pub inputs-few : s.n ≤ most_variables
-  inputs-few = few-inputs s table
-
-  roots-fit : s.m ≤ length roots
-  roots-fit = omega (arith, few-outputs s table)
+  pub held_few : s.n ≤ most_variables
+  held_few = few-inputs s table
 
   -- 1 << n is 2ⁿ
-  pub shifted-rows : 1 * 2 ^ s.n % 2 ^ 64 ≡ 2 ^ s.n
-  shifted-rows = one_shifted s.n (omega (arith, inputs-few))
+  pub held_rows : 1 * 2 ^ s.n % 18446744073709551616 ≡ 2 ^ s.n
+  held_rows = one_shifted s.n (omega (arith, held_few))
 
-  module _ (good : good_cells s roots cells ≡ true) where
-    pub followable : Followable s.n s.count s.order cells
-    unfolding lent_diagram cells_by
-    followable =
-        record {
-          levelled =
-              record {
-                few = inputs-few;
-                held = good-enough s roots cells good;
-                good = formed-nodes true s.n s.m (lent_diagram s.count s.m cells roots) (good-formed s roots cells good);
-              };
-          ordered = ordered s table;
-        }
+-- and no root is missing
+module _ (s : State) (roots cells : List ℕ) (long : most_outputs ≤ length roots) (held : is_network (stage_of s) ≡ true)
+    (good : good_cells s roots cells ≡ true) where
+  pub followable : Followable s.n s.count s.order cells
+  unfolding lent_diagram cells_by
+  followable =
+      record {
+        levelled =
+            record {
+              few = held_few s held;
+              held = good-enough s roots cells good;
+              good = formed-nodes true s.n s.m (lent_diagram s.count s.m cells roots) (good-formed s roots cells good);
+            };
+        ordered = ordered s (table s held);
+      }
 
-    pub rooted : Rooted s.m s.count roots cells
-    unfolding lent_diagram cells_by
-    rooted = record {
-      few = few-outputs s table;
-      fit = roots-fit;
-      own = formed-roots true s.n s.m (lent_diagram s.count s.m cells roots) (good-formed s roots cells good);
-    }
+  pub rooted : Rooted s.m s.count roots cells
+  unfolding lent_diagram cells_by
+  rooted = record {
+    few = few-outputs s (table s held);
+    fit = omega (arith, few-outputs s (table s held));
+    own = formed-roots true s.n s.m (lent_diagram s.count s.m cells roots) (good-formed s roots cells good);
+  }
+
+  pub evaluable : Evaluable s roots cells
+  evaluable = record { followable = followable; rooted = rooted }
 
 -- evaluating one row
-module _ (s : State) (row : ℕ) (roots cells : List ℕ) where
-  pub answer-short : length roots < most_outputs → evaluate_answer s row roots cells ≡ ShortBuffer
-  unfolding evaluate_answer roots_size
-  answer-short h = rw (lt-leb most_outputs (length roots) h)
-
-  module _ (long : most_outputs ≤ length roots) where
-    pub answer-no-network : is_network (stage_of s) ≡ false → evaluate_answer s row roots cells ≡ NoNetwork
-    unfolding evaluate_answer roots_size
-    answer-no-network e = rw (le-leb most_outputs (length roots) long, e)
-
-    module _ (held : is_network (stage_of s) ≡ true) where
-      pub answer-no-row : 2 ^ s.n ≤ row → evaluate_answer s row roots cells ≡ NoRow
-      unfolding evaluate_answer roots_size
-      answer-no-row h = rw (le-leb most_outputs (length roots) long, held, le-ltb row (2 ^ s.n) h)
-
-      module _ (known : row < 2 ^ s.n) where
-        pub answer-bad-cells : good_cells s roots cells ≡ false → evaluate_answer s row roots cells ≡ BadCells
-        unfolding evaluate_answer roots_size
-        answer-bad-cells e = rw (le-leb most_outputs (length roots) long, held, lt-ltb row (2 ^ s.n) known, e)
-
-        pub answer-done : good_cells s roots cells ≡ true → (x : ℕ)
-            → x ≡ packed s.m (output_at s.n s.count s.order cells row roots) → evaluate_answer s row roots cells ≡ Done x
-        unfolding evaluate_answer roots_size
-        answer-done e x d =
-            rw (le-leb most_outputs (length roots) long, held, lt-ltb row (2 ^ s.n) known, e)
-            (ap Done (sym (d ∙ outputs-row s row roots cells)))
+pub answer-done : (s : State) (row : ℕ) (roots cells : List ℕ) → most_outputs ≤ length roots → is_network (stage_of s) ≡ true
+    → row < 2 ^ s.n → good_cells s roots cells ≡ true → evaluate_answer s row roots cells ≡ Ok (row_outputs s row roots cells)
+unfolding evaluate_answer roots_size
+answer-done s row roots cells long held known good =
+    rw (le-leb most_outputs (length roots) long, held, lt-ltb row (2 ^ s.n) known, good)

@@ -1,20 +1,18 @@
--- Following a row from cell to cell: the bit at a level, the edge that is taken, that what the row gives at the root is kept, and that bits
+-- Following a row from cell to cell: the variable at a level, the edge that is taken, that what the row gives at the root is kept, and that bits
 -- packed by level give the same.
 -- Assumes nothing.
 use mathlib.Core.Path.{◌≡◌, refl, sym, ap, ◌∙◌}
-use mathlib.Core.Bool.{Bool, true, false, cond}
+use mathlib.Core.Bool.{Bool, true, false, not, beq, cond}
 use mathlib.Core.List.{List}
-use Prim.Native.Nat.{ℕ, zero, suc, ◌+◌, ◌*◌, ◌-◌, ◌/◌, ◌^◌, ◌≤◌, ◌<◌}
+use Prim.Native.Nat.{ℕ, zero, suc, ◌+◌, ◌*◌, ◌-◌, ◌/◌, ◌≤◌, ◌<◌}
 use native.Mathlib.Omega.{arith}
 use borrow.Author.Tests.{lt-ltb, le-ltb}
-use lib.Bits.{bit_and}
 use lib.Dec.{T, eqb, ltb}
 use lib.ListN.{get_or, take}
 use lib.Seq.{get_or-take}
-use Rattle.lists.specs.Bits.{flip, digit, bit, packed}
-use Rattle.lists.proofs.Bits.Masks.{bit_masked}
+use Rattle.lists.specs.Bits.{flip, packed}
 use Rattle.lists.proofs.Bools.{split}
-use Rattle.diagram.specs.Orders.Order.{is_order, row_under}
+use Rattle.diagram.specs.Orders.Order.{is_order}
 use Rattle.diagram.specs.Networks.Diagram.{Node, Diagram, edge, inverts, node_at, refers, gives}
 use Rattle.diagram.proofs.Orders.Order.{order-at}
 use Rattle.diagram.proofs.Networks.Reference.{from, from-reached}
@@ -26,16 +24,10 @@ use Rattle.lent.specs.Inner.Cells.{Levelled, level_bit}
 use Rattle.lent.proofs.LevelBits.{level-packed}
 use Rattle.lent.proofs.Tested.{refers-below, node-behind}
 
--- the bit of the variable at level p, by a shift and a mask
+-- the variable at level p
 
 pub variable-below : (n : ℕ) (order : List ℕ) → T (is_order n (take n order)) → (p : ℕ) → p < n → get_or order p 0 < n
 variable-below n order o p h = omega (arith, order-at n (take n order) o p h, get_or-take n order p 0 h)
-
-pub bit_shifted : (n : ℕ) (order : List ℕ) (row p : ℕ) → p < n
-    → bit_and (row / 2 ^ (n - 1 - get_or order p 0)) 1 ≡ digit (row_under n (take n order) row p)
-bit_shifted n order row p h =
-    let v = get_or order p 0 in
-    bit_masked n v row ∙ ap (λ (w : ℕ). digit (bit n w row)) (sym (get_or-take n order p 0 h))
 
 -- the cell behind a reference, and its edge for the row's bit
 
@@ -61,6 +53,19 @@ module _ (n count : ℕ) (cells : List ℕ) (ok : Levelled n count cells) (r : �
 -- the levels that are left at a reference: none at a constant
 unfoldable pub left : ℕ → Diagram → ℕ → ℕ
 left n D r = cond (ltb r 2) 0 (n - (node_at true D r).level)
+
+-- the code's ^ inverts, whichever side is asked
+pub xor-flip : (i b : Bool) → not (beq i b) ≡ flip i b
+xor-flip true true = refl
+xor-flip true false = refl
+xor-flip false true = refl
+xor-flip false false = refl
+
+pub xor-flipped : (i b : Bool) → not (beq i b) ≡ flip b i
+xor-flipped true true = refl
+xor-flipped true false = refl
+xor-flipped false true = refl
+xor-flipped false false = refl
 
 flip_twice : (i j b : Bool) → flip i (flip j b) ≡ flip (flip j i) b
 flip_twice true true true = refl

@@ -1,7 +1,6 @@
 pub mod Answered
 pub mod Evaluated
 pub mod Following
-pub mod Gathered
 pub mod LevelBits
 pub mod ManyRows
 pub mod Nodes
@@ -9,6 +8,6 @@ pub mod Outputs
 pub mod SameCells
 pub mod SelectedEdge
 pub mod Sizes
-pub mod Tabulated
-pub mod Tabulating
+pub mod Tables
 pub mod Tested
+pub mod Walked

@@ -1,8 +1,8 @@
 -- The outputs' roots are the diagram's own, and what a row's bits by level give at them are the outputs.
 -- Assumes nothing.
-use mathlib.Core.Path.{◌≡◌, refl, sym}
+use mathlib.Core.Path.{◌≡◌, refl, sym, ◌∙◌}
 use mathlib.Core.Bool.{Bool, true}
-use mathlib.Core.List.{List}
+use mathlib.Core.List.{List, []}
 use Prim.Native.Nat.{ℕ, ◌≤◌, ◌<◌}
 use native.Mathlib.Omega.{arith}
 use lib.Dec.{T}
@@ -14,8 +14,13 @@ use Rattle.lists.proofs.Lists.Membership.{all-at}
 use Rattle.lists.proofs.Bits.Packed.{packed-cong}
 use Rattle.diagram.specs.Networks.Diagram.{Diagram, refers, gives}
 use Rattle.diagram.specs.Orders.Order.{row_under}
-use Rattle.lent.specs.Inner.Cells.{Followable, Rooted, level_bit, output_at}
-use Rattle.lent.specs.Lent.{lent_cells}
+use Rattle.table.specs.declared.State.{State}
+use Rattle.table.specs.State.{order_of}
+use Rattle.lent.specs.Inner.Cells.{level_bit}
+use Rattle.lent.specs.Inner.Tabulate.{Evaluable}
+use Rattle.lent.specs.Lent.{cells_by, lent_cells, lent_diagram}
+use Rattle.lent.specs.Evaluate.{row_outputs}
+use Rattle.lent.proofs.Answered.{gives-roots}
 use Rattle.lent.proofs.Following.{packed-gives}
 
 -- each of the first m roots is the diagram's own
@@ -33,13 +38,15 @@ pub found_at : (D : Diagram) (a : ℕ → Bool) (n : ℕ) (roots : List ℕ) (j 
     → given_at D a n roots j ≡ b
 found_at D a n roots j r e b q = rw (← e) (sym q)
 
--- what the row's bits by level give at the roots are the outputs
-pub outputs-given : (n count : ℕ) (order cells : List ℕ) → Followable n count order cells
-    → (m : ℕ) (roots : List ℕ) → Rooted m count roots cells → (row bits : ℕ) → bits ≡ packed n (row_under n (take n order) row)
-    → packed m (given_at (lent_cells count cells) (level_bit bits) n roots) ≡ packed m (output_at n count order cells row roots)
-unfolding output_at
-outputs-given n count order cells ok m roots k row bits e =
-    let D = lent_cells count cells in
-    let a = row_under n (take n order) row in
-    packed-cong m (given_at D (level_bit bits) n roots) (given_at D a n roots)
-    (λ j h. packed-gives n D ok.levelled.good a bits e (get_or roots j 0) (root-own D m roots k.fit k.own j h (get_or roots j 0) refl))
+-- what the row's bits by level give at the roots are the outputs, whichever roots the diagram has
+pub outputs-given : (s : State) (roots cells : List ℕ) → Evaluable s roots cells
+    → (row bits : ℕ) → bits ≡ packed s.n (row_under s.n (order_of s) row)
+    → packed s.m (given_at (lent_cells s.count cells) (level_bit bits) s.n roots) ≡ row_outputs s row roots cells
+unfolding row_outputs lent_diagram cells_by
+outputs-given s roots cells ok row bits e =
+    let D = lent_cells s.count cells in
+    let a = row_under s.n (order_of s) row in
+    let k = ok.rooted in
+    packed-cong s.m (given_at D (level_bit bits) s.n roots) (given_at (lent_diagram s.count s.m cells roots) a s.n roots)
+    (λ j h. packed-gives s.n D ok.followable.levelled.good a bits e (get_or roots j 0) (root-own D s.m roots k.fit k.own j h (get_or roots j 0) refl)
+    ∙ gives-roots D.nodes [] (take s.m roots) a s.n (get_or roots j 0))

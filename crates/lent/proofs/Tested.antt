@@ -1,20 +1,21 @@
 -- The tests of number 24 on cells and roots, each by what the numbers at hand say: `number x` is number x of the cells, and `root j` is
 -- root j, wherever the code reads them (lent slices here, a network file's blocks in crate network_file).
 -- Assumes nothing.
-use mathlib.Core.Path.{◌≡◌, sym, ap, ◌∙◌}
+use mathlib.Core.Path.{◌≡◌, refl, sym, ap, ◌∙◌}
 use mathlib.Core.Bool.{Bool, true, false, ◌&&◌, and-false}
-use mathlib.Core.List.{map}
+use mathlib.Core.List.{List, map}
 use Prim.Native.Nat.{ℕ, ◌+◌, ◌*◌, ◌-◌, ◌/◌, ◌≤◌, ◌<◌}
 use native.Mathlib.Omega.{arith}
 use borrow.Author.Tests.{lt-ltb, le-ltb, le-leb, lt-leb, eq-eqb}
-use lib.Dec.{T, ltb, leb→le}
+use lib.Dec.{T, ltb, leb, leb→le}
+use lib.Seq.{take-length}
 use lib.ListN.{length}
 use Rattle.lists.specs.Lists.{all, up_to}
 use Rattle.lists.proofs.Lists.Membership.{all-mapped}
 use Rattle.lists.proofs.Numbers.Compared.{all-up_to-fails, all-up_to-more}
 use Rattle.lists.proofs.Numbers.UpTo.{length-map-up_to}
 use Rattle.diagram.specs.Networks.Diagram.{later, refers, node_at, node_good, well_formed}
-use Rattle.lent.specs.Lent.{node_by, diagram_by, cells_by}
+use Rattle.lent.specs.Lent.{node_by, diagram_by, cells_by, lent_cells, lent_diagram}
 use Rattle.lent.proofs.Nodes.{cells-length, cell_at, all-nodes}
 
 -- cell i, from 0, and root j, by their tests
@@ -37,6 +38,12 @@ module _ (count : ℕ) (number : ℕ → ℕ) where
   pub refers-below : (r : ℕ) → T (refers true (cells_by count number) r) → r ≤ count + count + 1
   refers-below r t = omega (arith, leb→le r _ t, cells-length count number)
 
+  -- a reference, by one comparison
+  pub refers-to : (r : ℕ) → leb r (count + count + 1) ≡ refers true (cells_by count number) r
+  refers-to r =
+      let most : count + count + 1 ≡ 2 * length (cells_by count number).nodes + 1 = omega (arith, cells-length count number) in
+      ap (leb r) most
+
   -- the cell behind a reference
   pub node-behind : (r : ℕ) → 2 ≤ r → r ≤ count + count + 1 → node_at true (cells_by count number) r ≡ node_by number (r / 2 - 1)
   node-behind r h k = cell_at count number (r / 2 - 1) (record { level = 0; low = 0; high = 0 }) (omega arith)
@@ -53,46 +60,10 @@ module _ (count : ℕ) (number : ℕ → ℕ) where
     pub later-own : 2 ≤ r → r ≤ count + count + 1 → later true (cells_by count number) p r ≡ ltb p (number (3 * (r / 2 - 1)))
     later-own h k = rw (le-ltb r 2 h, refers-own r k, node-behind r h k)
 
-  -- cell i, of whose numbers p, l and h are the level and the edges
-
-  module _ (n i p : ℕ) (level : p ≡ number (3 * i)) where
-    pub node-deep : n ≤ p → good_node count number n i ≡ false
-    node-deep h = rw (le-ltb (number (3 * i)) n (omega arith))
-
-    module _ (l : ℕ) (low : l ≡ number (3 * i + 1)) where
-      pub node-low-bad : later true (cells_by count number) p l ≡ false → good_node count number n i ≡ false
-      node-low-bad e = rw (← level, ← low, e) (and-false (ltb p n))
-
-      pub node-low-good : p < n → later true (cells_by count number) p l ≡ true → (h : ℕ) → h ≡ number (3 * i + 2)
-          → good_node count number n i ≡ later true (cells_by count number) p h
-      node-low-good b e h high = rw (← level, ← low, ← high, lt-ltb p n b, e)
-
-  -- all cells, where those below i are good
-
-  pub nodes-bad : (n i : ℕ) → i < count → good_node count number n i ≡ false
-      → all (node_good true n (cells_by count number)) (cells_by count number).nodes ≡ false
-  nodes-bad n i h e = all-nodes count number (node_good true n (cells_by count number)) ∙ all-up_to-fails (good_node count number n) count i h e
-
-  pub nodes-good : (n i : ℕ) → i ≡ count → all (good_node count number n) (up_to i) ≡ true
-      → all (node_good true n (cells_by count number)) (cells_by count number).nodes ≡ true
-  nodes-good n i h e =
-      all-nodes count number (node_good true n (cells_by count number)) ∙ ap (λ (k : ℕ). all (good_node count number n) (up_to k)) (sym h) ∙ e
-
-  -- the first m roots, where those below j are the diagram's own
+  -- the first m roots
 
   module _ (root : ℕ → ℕ) where
-    pub roots-more : (j r : ℕ) → r ≡ root j → r ≤ count + count + 1 → all (own_root count number root) (up_to j) ≡ true
-        → all (own_root count number root) (up_to (j + 1)) ≡ true
-    roots-more j r e k t = all-up_to-more (own_root count number root) j t (refers-own (root j) (omega arith))
-
     module _ (m : ℕ) where
-      pub roots-bad : (j r : ℕ) → j < m → r ≡ root j → count + count + 1 < r → all (own_root count number root) (up_to m) ≡ false
-      roots-bad j r h e k = all-up_to-fails (own_root count number root) m j h (refers-past (root j) (omega arith))
-
-      pub roots-good : (j : ℕ) → j ≡ m → all (own_root count number root) (up_to j) ≡ true
-          → all (own_root count number root) (up_to m) ≡ true
-      roots-good j h e = ap (λ (k : ℕ). all (own_root count number root) (up_to k)) (sym h) ∙ e
-
       -- both tests make the one of a well-formed diagram
 
       pub both-tests : (n : ℕ) → well_formed true n m (diagram_by count m number root)
@@ -109,3 +80,9 @@ module _ (count : ℕ) (number : ℕ → ℕ) where
           → well_formed true n m (diagram_by count m number root)
           ≡ all (node_good true n (cells_by count number)) (cells_by count number).nodes
       formed-rest n e = both-tests n ∙ rw e
+
+-- and so of lent cells with as many roots as outputs
+pub lent-tests : (count : ℕ) (cells roots : List ℕ) (n : ℕ) → well_formed true n (length roots) (lent_diagram count (length roots) cells roots)
+    ≡ all (refers true (lent_cells count cells)) roots && all (node_good true n (lent_cells count cells)) (lent_cells count cells).nodes
+unfolding well_formed lent_diagram cells_by
+lent-tests count cells roots n = rw (take-length roots, eq-eqb (length roots) (length roots) refl)

@@ -1,11 +1,11 @@
 -- Evaluation (document 01, sections 4 and 7): 10, 22, 8, 24, then the outputs' bits.
 -- Assumes nothing.
-use Rattle.std.specs.Prelude.{Bool, true, ◌&&◌, List, ℕ, ◌/◌, ◌^◌, ltb, leb, length, get_or}
+use Rattle.std.specs.Prelude.{Bool, true, ◌&&◌, List, ℕ, ◌/◌, ◌^◌, ltb, leb, length, get_or, Ok}
 use Rattle.lists.specs.Bits.{packed}
 use Rattle.diagram.specs.Networks.Diagram.{well_formed, gives}
 use Rattle.diagram.specs.Orders.Order.{row_under}
-use Rattle.table.specs.declared.Answer.{Answer}
-use Rattle.table.specs.declared.Answer.TheVariants.{Done, ShortBuffer, NoNetwork, NoRow, BadCells}
+use Rattle.table.specs.Answer.{Answer}
+use Rattle.table.specs.declared.Refusal.TheVariants.{ShortBuffer, NoNetwork, NoRow, BadCells}
 use Rattle.table.specs.declared.State.{State}
 use Rattle.table.specs.Answer.{unless}
 use Rattle.table.specs.State.{order_of, stage_of, is_network}
@@ -27,4 +27,4 @@ evaluate_answer s row roots cells =
     unless (leb roots_size (length roots)) ShortBuffer
     (unless (is_network (stage_of s)) NoNetwork
     (unless (ltb row (2 ^ s.n)) NoRow
-    (unless (good_cells s roots cells) BadCells (Done (row_outputs s row roots cells)))))
+    (unless (good_cells s roots cells) BadCells (Ok (row_outputs s row roots cells)))))

@@ -1,9 +1,9 @@
 -- Request 2.1 of document 02, many rows in one call: 10, 31, 22, 8, 24, then the answers.
 -- Assumes nothing.
-use Rattle.std.specs.Prelude.{◌≡◌, cond, List, ◌++◌, map, ℕ, ◌<◌, ◌^◌, ltb, leb, length, get_or, drop}
+use Rattle.std.specs.Prelude.{◌≡◌, cond, List, ◌++◌, map, ℕ, ◌<◌, ◌^◌, ltb, leb, length, get_or, drop, Ok}
 use Rattle.lists.specs.Lists.{all}
-use Rattle.table.specs.declared.Answer.{Answer}
-use Rattle.table.specs.declared.Answer.TheVariants.{Done, ShortBuffer, ShortAnswers, NoNetwork, NoRow, BadCells}
+use Rattle.table.specs.Answer.{Answer}
+use Rattle.table.specs.declared.Refusal.TheVariants.{ShortBuffer, ShortAnswers, NoNetwork, NoRow, BadCells}
 use Rattle.table.specs.declared.State.{State}
 use Rattle.table.specs.Answer.{value, unless, done}
 use Rattle.table.specs.State.{stage_of, is_network}
@@ -18,7 +18,7 @@ rows_answer s rows answers roots cells =
     (unless (leb (length rows) (length answers)) ShortAnswers
     (unless (is_network (stage_of s)) NoNetwork
     (unless (all (λ row. ltb row (2 ^ s.n)) rows) NoRow
-    (unless (good_cells s roots cells) BadCells (Done 0)))))
+    (unless (good_cells s roots cells) BadCells (Ok 0)))))
 
 -- 'Each answer equals evaluating that row alone, and answers past the last row keep their content'
 unfoldable pub rows_answers : State → List ℕ → List ℕ → List ℕ → List ℕ → List ℕ
@@ -29,4 +29,4 @@ rows_answers s rows answers roots cells =
 -- each row alone is evaluated with success, and its answer stands at the row's position
 unfoldable pub EachAlone : State → List ℕ → List ℕ → List ℕ → List ℕ → Type 0
 EachAlone s rows roots cells answers =
-    (i : ℕ) → i < length rows → evaluate_answer s (get_or rows i 0) roots cells ≡ Done (get_or answers i 0)
+    (i : ℕ) → i < length rows → evaluate_answer s (get_or rows i 0) roots cells ≡ Ok (get_or answers i 0)

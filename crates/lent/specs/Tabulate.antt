@@ -1,11 +1,11 @@
 -- Request 2.2 of document 02, the table that lent cells compute: 10, 22, 24, then 'every row cared', in values and care.
 -- Assumes nothing.
-use Rattle.std.specs.Prelude.{true, cond, ◌&&◌, List, ℕ, leb, length}
+use Rattle.std.specs.Prelude.{true, cond, ◌&&◌, List, ℕ, leb, length, Ok}
 use Rattle.lists.specs.Written.{over}
 use Rattle.diagram.specs.Table.{Table}
 use Rattle.diagram.specs.Canonical.Computed.{computed_table}
-use Rattle.table.specs.declared.Answer.{Answer}
-use Rattle.table.specs.declared.Answer.TheVariants.{Done, ShortBuffer, NoNetwork, BadCells}
+use Rattle.table.specs.Answer.{Answer}
+use Rattle.table.specs.declared.Refusal.TheVariants.{ShortBuffer, NoNetwork, BadCells}
 use Rattle.table.specs.declared.State.{State}
 use Rattle.table.specs.Answer.{unless, done}
 use Rattle.table.specs.State.{order_of, stage_of, is_network}
@@ -17,7 +17,7 @@ use Rattle.lent.specs.Evaluate.{good_cells}
 unfoldable pub tabulate_answer : State → List ℕ → List ℕ → List ℕ → List ℕ → Answer
 tabulate_answer s roots cells values care =
     unless (leb roots_size (length roots) && (leb plane_size (length values) && leb plane_size (length care))) ShortBuffer
-    (unless (is_network (stage_of s)) NoNetwork (unless (good_cells s roots cells) BadCells (Done 0)))
+    (unless (is_network (stage_of s)) NoNetwork (unless (good_cells s roots cells) BadCells (Ok 0)))
 
 -- what the lent cells compute under the state's order
 abbrev pub lent_table : State → List ℕ → List ℕ → Table

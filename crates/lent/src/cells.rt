@@ -1,79 +1,67 @@
-// Lent cells and roots: their numbers, and whether they are a well-formed diagram (document 01, number 24).
+// Lent cells and roots: whether the counted cells and the outputs' roots are a well-formed diagram (document 01, number 24).
 ghost use Rattle.std.specs.Prelude.{◌≡◌, true, ◌/◌, ◌≤◌, ◌<◌, length};
-ghost use Rattle.lists.specs.Lists.{all, up_to};
+ghost use Rattle.lists.specs.Lists.{all};
 ghost use Rattle.diagram.specs.Networks.Diagram.{later, refers, node_good, well_formed};
-ghost use Rattle.lent.specs.Lent.{number_in, lent_node, lent_cells, lent_diagram};
+ghost use Rattle.lent.specs.Lent.{lent_node, lent_cells, lent_diagram};
 ghost use Rattle.lent.specs.Evaluate.{good_cells};
 
-use block::numbers::lent_number;
 use table::State;
 
-// Whether a reference is a constant, or to a counted cell at a level after p.
-fn later_than(cells: &[u16], count: usize, p: usize, r: usize) -> bool
-    requires { count ≤ length cells.now / 3 }
-    ensures { result ≡ later true (lent_cells count cells.now) p r }
-{
-    if r < 2 {
-        return true;
-    }
-    if count + count + 1 < r {
-        return false;
-    }
-    p < lent_number(cells, 3 * (r / 2 - 1))
+// The counted cells, all of them lent.
+#[derive(Clone, Copy)]
+struct Counted<'a> {
+    cells: &'a [u16],
+    count: usize,
+    ghost count_in_bounds: { count ≤ length cells.now / 3 },
 }
 
-// Whether cell i, from 0, has a level below n and edges only to later levels or constants.
-fn node_good(cells: &[u16], count: usize, n: usize, i: usize) -> bool
-    requires { (count ≤ length cells.now / 3) × (i < count) }
-    ensures { result ≡ node_good true n (lent_cells count cells.now) (lent_node cells.now i) }
-{
-    let first = 3 * i;
-    let p = lent_number(cells, first);
-    if n <= p {
-        return false;
-    }
-    if !later_than(cells, count, p, lent_number(cells, first + 1)) {
-        return false;
-    }
-    later_than(cells, count, p, lent_number(cells, first + 2))
-}
-
-// Whether every counted cell is good.
-fn nodes_good(cells: &[u16], count: usize, n: usize) -> bool
-    requires { count ≤ length cells.now / 3 }
-    ensures { result ≡ all (node_good true n (lent_cells count cells.now)) (lent_cells count cells.now).nodes }
-{
-    for i in 0..count {
-        if !node_good(cells, count, n, i) {
+impl<'a> Counted<'a> {
+    // Whether a reference is a constant, or to a counted cell at a level after p.
+    fn later_than(&self, p: usize, r: usize) -> bool
+        ensures { result ≡ later true (lent_cells self.now.count self.now.cells.now) p r }
+    {
+        if r < 2 {
+            return true;
+        }
+        if self.count + self.count + 1 < r {
             return false;
         }
+        p < self.cells[3 * (r / 2 - 1)] as usize
     }
-    true
-}
 
-// Whether each of the first m roots is a constant or to a counted cell.
-fn roots_good(cells: &[u16], count: usize, roots: &[u16], m: usize) -> bool
-    requires { (count ≤ length cells.now / 3) × (m ≤ length roots.now) }
-    ensures { result ≡ all (λ j. refers true (lent_cells count cells.now) (number_in roots.now j)) (up_to m) }
-{
-    let most = count + count + 1;
-    for j in 0..m {
-        if most < lent_number(roots, j) {
-            return false;
-        }
+    // Whether cell i, from 0, has a level below n and edges only to later levels or constants.
+    fn node_good(&self, n: usize, i: usize) -> bool
+        requires { i < self.now.count }
+        ensures { result ≡ node_good true n (lent_cells self.now.count self.now.cells.now) (lent_node self.now.cells.now i) }
+    {
+        let p = self.cells[3 * i] as usize;
+        let low = self.cells[3 * i + 1] as usize;
+        let high = self.cells[3 * i + 2] as usize;
+        p < n && self.later_than(p, low) && self.later_than(p, high)
     }
-    true
-}
 
-// Whether the counted cells and the first m roots are a well-formed diagram of n levels.
-fn well_formed(cells: &[u16], count: usize, roots: &[u16], n: usize, m: usize) -> bool
-    requires { (count ≤ length cells.now / 3) × (m ≤ length roots.now) }
-    ensures { result ≡ well_formed true n m (lent_diagram count m cells.now roots.now) }
-{
-    if !roots_good(cells, count, roots, m) {
-        return false;
+    // Whether every counted cell is good.
+    fn nodes_good(&self, n: usize) -> bool
+        ensures { result
+            ≡ all (node_good true n (lent_cells self.now.count self.now.cells.now)) (lent_cells self.now.count self.now.cells.now).nodes }
+    {
+        (0..self.count).all(|i| self.node_good(n, i))
     }
-    nodes_good(cells, count, n)
+
+    // Whether each root is a constant or to a counted cell.
+    fn roots_good(&self, roots: &[u16]) -> bool
+        ensures { result ≡ all (refers true (lent_cells self.now.count self.now.cells.now)) roots.now }
+    {
+        let most = self.count + self.count + 1;
+        roots.iter().all(|root| *root as usize <= most)
+    }
+
+    // Whether these and the roots, one for each output, are a well-formed diagram of n levels.
+    fn well_formed(&self, roots: &[u16], n: usize) -> bool
+        ensures { result ≡ well_formed true n (length roots.now) (lent_diagram self.now.count (length roots.now) self.now.cells.now roots.now) }
+    {
+        self.roots_good(roots) && self.nodes_good(n)
+    }
 }
 
 // Whether the lent cells are enough for the count, and with the roots a well-formed diagram: what number 24 asks.
@@ -81,12 +69,8 @@ pub fn good_cells(state: State, roots: &[u16], cells: &[u16]) -> bool
     ensures { result ≡ good_cells state roots.now cells.now }
 {
     let count = state.count;
-    let m = state.m;
-    if cells.len() / 3 < count {
+    if cells.len() / 3 < count || roots.len() < state.m {
         return false;
     }
-    if roots.len() < m {
-        return false;
-    }
-    well_formed(cells, count, roots, state.n, m)
+    Counted { cells, count }.well_formed(&roots[..state.m], state.n)
 }

@@ -3,28 +3,23 @@ ghost use Rattle.std.specs.Prelude.{◌≡◌};
 ghost use Rattle.lent.specs.Evaluate.{evaluate_answer};
 
 use crate::ROOTS;
-use crate::cells::good_cells;
-use crate::follow::outputs;
-use table::valid::holds_network;
-use table::{Answer, State};
+use crate::network::Network;
+use table::{Answer, Refusal, State};
 
 // The outputs at a row, bit j output j. Refuses with 10, 22, 8, 24.
+#[tactic(auto, using(crate::proofs::Answered::held_few, crate::proofs::Answered::held_rows), unfolding(crate::specs::Evaluate::evaluate_answer, crate::specs::Lent::roots_size))]
 pub fn evaluate(state: State, row: usize, roots: &[u16], cells: &[u16]) -> Answer
     ensures { result ≡ evaluate_answer state row roots.now cells.now }
 {
     if roots.len() < ROOTS {
-        return Answer::ShortBuffer;
+        return Err(Refusal::ShortBuffer);
     }
-    if !holds_network(state) {
-        return Answer::NoNetwork;
+    if !state.holds_network() {
+        return Err(Refusal::NoNetwork);
     }
-    let n = state.n;
-    if (1 << n) <= row {
-        return Answer::NoRow;
+    if (1 << state.n) <= row {
+        return Err(Refusal::NoRow);
     }
-    if !good_cells(state, roots, cells) {
-        return Answer::BadCells;
-    }
-    let order = state.order;
-    Answer::Done(outputs(cells, state.count, roots, state.m, order, n, row))
+    let network = Network::tested(state, roots, cells)?;
+    Ok(network.outputs(row))
 }

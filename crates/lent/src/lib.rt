@@ -4,6 +4,7 @@
 pub mod cells;
 pub mod evaluate;
 mod follow;
+mod network;
 pub mod rows;
 pub mod tabulate;
 

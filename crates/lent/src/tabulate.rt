@@ -3,79 +3,75 @@ ghost use Rattle.std.specs.Prelude.{◌≡◌, ◌≤◌, ◌<◌, length};
 ghost use Rattle.lists.specs.Written.{over};
 ghost use Rattle.table.specs.Stream.{plane_byte};
 ghost use Rattle.table.specs.Calls.{plane_size};
-ghost use Rattle.table.specs.Sizes.{most_bits};
 ghost use Rattle.lent.specs.Tabulate.{tabulate_answer, lent_table, tabulate_values, tabulate_care};
-ghost use Rattle.lent.specs.Inner.Tabulate.{Evaluable, table_bit, ones_byte};
+ghost use Rattle.lent.specs.Inner.Tabulate.{table_bit, ones_byte};
 
 use crate::ROOTS;
-use crate::cells::good_cells;
-use crate::follow::{follow, level_bits};
-use block::numbers::lent_number;
-use table::valid::holds_network;
-use table::{Answer, PLANE, State};
-
-// Bit x of the stream of values: each output has 2ⁿ rows, and past the last output there is none.
-fn value_bit(state: State, roots: &[u16], cells: &[u16], x: usize) -> bool
-    requires { Evaluable state roots.now cells.now }
-    ensures { result ≡ table_bit (λ v. v.value) (lent_table state roots.now cells.now) x }
-{
-    let n = state.n;
-    if state.m << n <= x {
-        return false;
-    }
-    let order = state.order;
-    let row = x & ((1 << n) - 1);
-    let bits = level_bits(&order, n, row);
-    follow(cells, state.count, n, bits, lent_number(roots, x >> n))
-}
-
-// Byte i of the stream of values, the first bit the lowest.
-fn value_byte(state: State, roots: &[u16], cells: &[u16], i: usize) -> u8
-    requires { Evaluable state roots.now cells.now × (i < plane_size) }
-    ensures { result ≡ plane_byte (λ x. x.value) (lent_table state roots.now cells.now) i }
-{
-    let mut byte: u8 = 0;
-    for b in 0..8 {
-        if value_bit(state, roots, cells, 8 * i + b) {
-            byte |= 1u8 << b;
-        }
-    }
-    byte
-}
+use crate::network::Network;
+use table::{Answer, PLANE, Refusal, State};
 
 // Byte i of a stream of `end` ones, and zeros past it.
 fn ones_byte(end: usize, i: usize) -> u8
-    requires { (end ≤ most_bits) × (i < plane_size) }
+    requires { i < plane_size }
     ensures { result ≡ ones_byte end i }
 {
-    let first = 8 * i;
-    if end <= first {
-        return 0;
-    }
-    let left = end - first;
-    if 8 <= left {
-        return 255;
-    }
-    (1u8 << left) - 1
+    let left = end.saturating_sub(8 * i).min(8);
+    ((1u16 << left) - 1) as u8
 }
 
-// Writes all of both planes: every row is cared.
-fn write_table(state: State, roots: &[u16], cells: &[u16], values: &mut [u8], care: &mut [u8])
-    requires evaluable { Evaluable state roots.now cells.now }
-    requires plane_size_in_bounds { (plane_size ≤ length values.old) × (plane_size ≤ length care.old) }
-    ensures values { values.new
-        ≡ over (plane_byte (λ x. x.value) (lent_table state roots.now cells.now)) plane_size values.old }
-    ensures care { care.new
-        ≡ over (plane_byte (λ x. x.care) (lent_table state roots.now cells.now)) plane_size care.old }
-{
-    let end = state.m << state.n;
-    for i in 0..PLANE {
-        values[i] = value_byte(state, roots, cells, i);
-        care[i] = ones_byte(end, i);
+impl<'a> Network<'a> {
+    // Bit x of the stream of values: each output has 2ⁿ rows, and past the last output there is none.
+    fn value_bit(&self, x: usize) -> bool
+        ensures { result ≡ table_bit (λ v. v.value) (lent_table self.now.state self.now.roots.now self.now.cells.now) x }
+    {
+        let n = self.state.n;
+        if self.state.m << n <= x {
+            return false;
+        }
+        let bits = self.level_bits(x & ((1 << n) - 1));
+        self.follow(bits, self.roots[x >> n] as usize)
+    }
+
+    // Byte i of the stream of values, the first bit the lowest.
+    fn value_byte(&self, i: usize) -> u8
+        requires { i < plane_size }
+        ensures { result ≡ plane_byte (λ x. x.value) (lent_table self.now.state self.now.roots.now self.now.cells.now) i }
+    {
+        let mut byte: u8 = 0;
+        for b in 0..8 {
+            if self.value_bit(8 * i + b) {
+                byte |= 1u8 << b;
+            }
+        }
+        byte
+    }
+
+    // Writes all of the values.
+    fn write_values(&self, values: &mut [u8])
+        requires { plane_size ≤ length values.old }
+        ensures { values.new
+            ≡ over (plane_byte (λ x. x.value) (lent_table self.now.state self.now.roots.now self.now.cells.now)) plane_size values.old }
+    {
+        for (i, byte) in values[..PLANE].iter_mut().enumerate() {
+            *byte = self.value_byte(i);
+        }
+    }
+
+    // Writes all of the care: every row is cared.
+    fn write_care(&self, care: &mut [u8])
+        requires { plane_size ≤ length care.old }
+        ensures { care.new
+            ≡ over (plane_byte (λ x. x.care) (lent_table self.now.state self.now.roots.now self.now.cells.now)) plane_size care.old }
+    {
+        let end = self.state.m << self.state.n;
+        for (i, byte) in care[..PLANE].iter_mut().enumerate() {
+            *byte = ones_byte(end, i);
+        }
     }
 }
 
 // Writes the table that the cells compute. Refuses with 10, 22, 24; a refusal writes nothing.
+#[tactic(auto, using(crate::proofs::Sizes::sizes), unfolding(crate::specs::Tabulate::tabulate_answer, crate::specs::Tabulate::tabulate_values, crate::specs::Tabulate::tabulate_care, crate::specs::Lent::roots_size))]
 pub fn tabulate(
     state: State,
     roots: &[u16],
@@ -90,20 +86,19 @@ pub fn tabulate(
         ≡ tabulate_care state roots.now cells.now values.old care.old }
 {
     if roots.len() < ROOTS {
-        return Answer::ShortBuffer;
+        return Err(Refusal::ShortBuffer);
     }
     if values.len() < PLANE {
-        return Answer::ShortBuffer;
+        return Err(Refusal::ShortBuffer);
     }
     if care.len() < PLANE {
-        return Answer::ShortBuffer;
+        return Err(Refusal::ShortBuffer);
     }
-    if !holds_network(state) {
-        return Answer::NoNetwork;
+    if !state.holds_network() {
+        return Err(Refusal::NoNetwork);
     }
-    if !good_cells(state, roots, cells) {
-        return Answer::BadCells;
-    }
-    write_table(state, roots, cells, values, care);
-    Answer::Done(0)
+    let network = Network::tested(state, roots, cells)?;
+    network.write_values(values);
+    network.write_care(care);
+    Ok(0)
 }

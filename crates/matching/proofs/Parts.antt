@@ -8,3 +8,4 @@ pub mod PartMerge
 pub mod Planes
 pub mod TreeHalves
 pub mod TreeTests
+pub mod PartTests

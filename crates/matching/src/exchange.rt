@@ -1,5 +1,5 @@
 // The two top variables of parts exchanged, in place: the part's quarters are put together anew. d variables are below the two.
-ghost use Rattle.std.specs.Prelude.{◌≡◌, map, suc, ◌+◌, ◌*◌, ◌^◌, ◌≤◌, ◌<◌, length, take, drop};
+ghost use Rattle.std.specs.Prelude.{◌≡◌, ◌++◌, map, suc, ◌+◌, ◌*◌, ◌^◌, ◌≤◌, ◌<◌, length, take, drop};
 ghost use Rattle.lists.specs.Written.{splice};
 ghost use Rattle.diagram.specs.Networks.Bound.{most_variables};
 ghost use Rattle.reorder.specs.Sizes.{width};
@@ -12,8 +12,8 @@ use reorder::width::width_of;
 
 // Two halves of d variables as one byte, the first in the lowest bits.
 fn join_byte(d: usize, low: u8, high: u8) -> u8
-    requires d_bound { d < 3 }
-    requires low_bound { (low < 2 ^ (2 ^ d)) × (high < 2 ^ (2 ^ d)) }
+    requires below_a_byte { d < 3 }
+    requires halves_fit { (low < 2 ^ (2 ^ d)) × (high < 2 ^ (2 ^ d)) }
     ensures { result ≡ join_byte d low high }
 {
     (high << (1usize << d)) + low
@@ -56,41 +56,29 @@ fn exchange_nibbles(plane: &mut [u8])
 fn exchange_blocks(q: usize, plane: &mut [u8])
     requires { length plane.old ≡ 4 * q }
     ensures { plane.new
-        ≡ splice (splice plane.old q (take q (drop (2 * q) plane.old))) (2 * q)
-        (take q (drop q plane.old)) }
+        ≡ (take q plane.old ++ take q (drop (2 * q) plane.old)) ++ (take q (drop q plane.old) ++ drop (3 * q) plane.old) }
 {
-    for j in 0..q {
-        let a = q + j;
-        let b = 2 * q + j;
-        let x = plane[a];
-        plane[a] = plane[b];
-        plane[b] = x;
-    }
+    let (front, back) = plane.split_at_mut(2 * q);
+    front[q..].swap_with_slice(&mut back[..q]);
 }
 
 // A plane of d + 2 variables.
 fn exchange_plane(d: usize, plane: &mut [u8])
-    requires d_bound { d + 2 ≤ most_variables }
+    requires variables { d + 2 ≤ most_variables }
     requires plane_len { length plane.old ≡ width (suc (suc d)) }
     ensures { plane.new ≡ exchanged_plane d plane.old }
 {
-    if d < 2 {
-        let x = plane[0];
-        plane[0] = exchange_byte(d, x);
-        return;
+    match d {
+        0 | 1 => plane[0] = exchange_byte(d, plane[0]),
+        2 => exchange_nibbles(plane),
+        _ => exchange_blocks(width_of(d), plane),
     }
-    if d == 2 {
-        exchange_nibbles(plane);
-        return;
-    }
-    let q = width_of(d);
-    exchange_blocks(q, plane);
 }
 
-// The count parts of d + 2 variables at from.
+// The count parts of d + 2 variables at from. Planes are cut by index: `chunks_exact_mut` says nothing of what it leaves.
 pub(crate) fn exchange_parts(d: usize, from: usize, count: usize, work: &mut [u8])
-    requires d_bound { d + 2 ≤ most_variables }
-    requires d_in_bounds { from + count * (width (suc (suc d)) + width (suc (suc d))) ≤ length work.old }
+    requires variables { d + 2 ≤ most_variables }
+    requires in_work { from + count * (width (suc (suc d)) + width (suc (suc d))) ≤ length work.old }
     ensures { work.new
         ≡ splice work.old from (flat (map (exchanged_part d) (parts_at (suc (suc d)) count from work.old))) }
 {

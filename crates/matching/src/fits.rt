@@ -13,43 +13,31 @@ fn blocks_fit(at: usize, count: usize, size: usize, end: usize) -> bool
     requires { 0 < size }
     ensures { result ≡ leb (at + count * size) end }
 {
-    if end < at {
-        return false;
-    }
-    count <= (end - at) / size
+    at <= end && count <= (end - at) / size
 }
 
 // Whether the regions at a and at b have no byte in common.
+#[tactic(auto, unfolding(crate::specs::Fits::regions_apart))]
 fn regions_apart(a: usize, b: usize) -> bool
     ensures { result ≡ regions_apart a b }
 {
-    if blocks_fit(a, 1, REGION, b) {
-        return true;
-    }
-    blocks_fit(b, 1, REGION, a)
+    blocks_fit(a, 1, REGION, b) || blocks_fit(b, 1, REGION, a)
 }
 
 // Whether the region at a lies before the links, and in the work buffer with a word behind it.
+#[tactic(auto, unfolding(crate::specs::Fits::region_fits), using(crate::proofs::Buffers::Fitting::region_word))]
 fn region_fits(a: usize, links: usize, len: usize) -> bool
     ensures { result ≡ region_fits a links len }
 {
-    if !blocks_fit(a, 1, REGION, links) {
-        return false;
-    }
-    blocks_fit(a, 1, REGION + WORD, len)
+    blocks_fit(a, 1, REGION, links) && blocks_fit(a, 1, REGION + WORD, len)
 }
 
 // Whether a level's regions are apart, and each where it may be.
+#[tactic(auto, unfolding(crate::specs::Fits::regions_fit))]
 fn regions_fit(from: usize, to: usize, links: usize, len: usize) -> bool
     ensures { result ≡ regions_fit from to links len }
 {
-    if !regions_apart(from, to) {
-        return false;
-    }
-    if !region_fits(from, links, len) {
-        return false;
-    }
-    region_fits(to, links, len)
+    regions_apart(from, to) && region_fits(from, links, len) && region_fits(to, links, len)
 }
 
 // Whether a region has room for the parts of count entries of d + 1 variables, and for two of d variables of each.
@@ -57,18 +45,11 @@ fn count_fits(d: usize, count: usize) -> bool
     requires { d < most_variables }
     ensures { result ≡ count_fits d count }
 {
-    if REGION < count {
-        return false;
-    }
-    let v = width_of(d + 1);
-    if REGION < count * (v + v) {
-        return false;
-    }
-    let w = width_of(d);
-    count * (4 * w) <= REGION
+    blocks_fit(0, count, 2 * width_of(d + 1), REGION)
+        && blocks_fit(0, count, 4 * width_of(d), REGION)
 }
 
-// Whether `level` has all that it needs.
+// Whether `Level` has all that it needs.
 pub(crate) fn level_fits(
     d: usize,
     from: usize,
@@ -79,16 +60,10 @@ pub(crate) fn level_fits(
 ) -> bool
     ensures { result ≡ level_fits d from count to links len }
 {
-    if VARIABLES <= d {
-        return false;
-    }
-    if !regions_fit(from, to, links, len) {
-        return false;
-    }
-    if !count_fits(d, count) {
-        return false;
-    }
-    blocks_fit(links, count, 4, len)
+    d < VARIABLES
+        && regions_fit(from, to, links, len)
+        && count_fits(d, count)
+        && blocks_fit(links, count, 4, len)
 }
 
 // Whether `link_part` has all that it needs.
@@ -105,27 +80,16 @@ pub(crate) fn candidate_fits(
     if VARIABLES < d {
         return false;
     }
-    let w = width_of(d);
-    let s = w + w;
-    if size != s {
-        return false;
-    }
-    if !blocks_fit(to, 1, REGION + WORD, len) {
-        return false;
-    }
-    if !blocks_fit(s, k, s, REGION) {
-        return false;
-    }
-    blocks_fit(l, 2, 1, len)
+    let s = 2 * width_of(d);
+    size == s
+        && blocks_fit(to, 1, REGION + WORD, len)
+        && blocks_fit(s, k, s, REGION)
+        && blocks_fit(l, 2, 1, len)
 }
 
 // Whether `exchange_parts` has all that it needs.
 pub(crate) fn parts_fit(d: usize, from: usize, count: usize, len: usize) -> bool
     ensures { result ≡ parts_fit d from count len }
 {
-    if VARIABLES - 2 < d {
-        return false;
-    }
-    let w = width_of(d + 2);
-    blocks_fit(from, count, w + w, len)
+    d <= VARIABLES - 2 && blocks_fit(from, count, 2 * width_of(d + 2), len)
 }

@@ -2,8 +2,7 @@
 // put behind the entries; their links are written as numbers. A call refuses where it hasn't all that it needs: it writes nothing then.
 #![tactic(auto)]
 
-mod bytes;
-mod copy;
+mod candidate;
 mod entries;
 mod exchange;
 mod fits;
@@ -11,9 +10,10 @@ mod halves;
 mod level;
 mod link;
 mod narrow;
-mod narrow_level;
+mod narrow_halves;
 mod part;
 mod wide;
+mod wide_halves;
 mod words;
 
 ghost use Rattle.std.specs.Prelude.{◌≡◌, cond, [], ◌∷◌, map, suc, length};
@@ -26,7 +26,7 @@ ghost use Rattle.matching.specs.Fits.{level_fits, candidate_fits, parts_fit};
 
 use crate::exchange::exchange_parts;
 use crate::fits::{candidate_fits, level_fits, parts_fit};
-use crate::level::level;
+use crate::level::Level;
 use crate::link::link_part;
 
 // The bytes of a region for one level's entries; specs/Links.antt has the definition, `region_size`.
@@ -50,10 +50,19 @@ pub fn link_level(
         (written (level_parts (width d) [] (offered_parts d (parts_at (suc d) count from work.old))) to links
         work.old) work.old }
 {
-    if !level_fits(d, from, count, to, links, work.len()) {
+    let len = work.len();
+    if !level_fits(d, from, count, to, links, len) {
         return 0;
     }
-    level(d, from, count, to, links, work)
+    let level = Level {
+        d,
+        from,
+        count,
+        to,
+        links,
+        len,
+    };
+    level.link(work)
 }
 
 // Links the candidate f of d variables among the k entries at to, and writes its link at l. Returns the number of entries, or 0 where it

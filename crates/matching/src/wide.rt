@@ -1,49 +1,79 @@
-// Candidates of more than 64 rows, compared with entries eight bytes at a time.
-ghost use Rattle.std.specs.Prelude.{◌≡◌, [], ◌∷◌, ◌+◌, ◌*◌, ◌%◌, ◌≤◌, ◌<◌, length, take, drop};
-ghost use Rattle.matching.specs.Inner.Found.{found_link};
-ghost use Rattle.matching.specs.Parts.{chunks};
+// Candidates of more than 64 rows, in the bytes of their parts.
+ghost use Rattle.std.specs.Prelude.{◌≡◌, ◌+◌, ◌%◌, ◌≤◌, ◌<◌, length, take};
 ghost use Rattle.matching.specs.Links.{word_size};
+ghost use Rattle.matching.specs.Inner.Found.{agreement};
 
-use crate::words::{WORD, eight_bytes};
+use crate::candidate::Candidate;
+use crate::part::{always, merge};
+use crate::words::{WORD, word_at};
 
-// Whether the candidate f agrees with the part at a: 2 where it does plain, else 3 where it does inverted, else 0.
-pub(crate) fn agree_words(w: usize, f: &[u8], region: &[u8], a: usize) -> usize
-    requires word_size_value { w % word_size ≡ 0 }
-    requires f_len { (length f.now ≡ w + w) × (a + (w + w) ≤ length region.now) }
-    ensures { result ≡ found_link w 0 f.now (take (w + w) (drop a region.now) ∷ []) }
+// A part of w bytes of values and w bytes of care, whole words each.
+#[derive(Clone, Copy)]
+pub(crate) struct Wide<'a> {
+    pub w: usize,
+    pub part: &'a [u8],
+    ghost some_bytes: { 0 < w },
+    ghost whole_words: { w % word_size ≡ 0 },
+    ghost part_len: { length part.now ≡ w + w },
+}
+
+// Whether f agrees with the entry inverted, where it agrees, plain before inverted: compared eight bytes at a time.
+fn words_agree(w: usize, f: &[u8], entry: &[u8]) -> Option<bool>
+    requires whole_words { w % word_size ≡ 0 }
+    requires f_len { length f.now ≡ w + w }
+    requires entry_len { w + w ≤ length entry.now }
+    ensures { result ≡ agreement w f.now (take (w + w) entry.now) }
 {
     let mut plain: u64 = 0;
     let mut inverted: u64 = 0;
-    let mut j = 0;
-    while j < w {
-        let both = eight_bytes(f, w + j) & eight_bytes(region, a + w + j);
-        let differ = (eight_bytes(f, j) ^ eight_bytes(region, a + j)) & both;
+    for i in 0..w / WORD {
+        let j = i * WORD;
+        let both = word_at(f, w + j) & word_at(entry, w + j);
+        let differ = (word_at(f, j) ^ word_at(entry, j)) & both;
         plain |= differ;
         inverted |= differ ^ both;
-        j += WORD;
     }
     if plain == 0 {
-        return 2;
+        Some(false)
+    } else if inverted == 0 {
+        Some(true)
+    } else {
+        None
     }
-    if inverted == 0 {
-        return 3;
-    }
-    0
 }
 
-// The number of the link to the first of k entries that agrees, plain before inverted; 0 where none does.
-pub(crate) fn first_words(w: usize, f: &[u8], region: &[u8], k: usize) -> usize
-    requires w_nonzero { (0 < w) × (w % word_size ≡ 0) }
-    requires f_len { (length f.now ≡ w + w) × (k * (w + w) ≤ length region.now) }
-    ensures { result ≡ found_link w 0 f.now (chunks (w + w) k region.now) }
-{
-    let mut a = 0;
-    for e in 0..k {
-        let found = agree_words(w, f, region, a);
-        if 0 < found {
-            return 2 * e + found;
-        }
-        a += w + w;
+impl Candidate for Wide<'_> {
+    ghost bytes = { λ c. c.w };
+
+    ghost part = { λ c. c.part.now };
+
+    fn bytes(&self) -> usize {
+        self.w
     }
-    0
+
+    fn constant(&self) -> Option<bool> {
+        if always(false, self.w, self.part) {
+            Some(false)
+        } else if always(true, self.w, self.part) {
+            Some(true)
+        } else {
+            None
+        }
+    }
+
+    fn agreement(&self, entry: &[u8]) -> Option<bool> {
+        words_agree(self.w, self.part, entry)
+    }
+
+    fn merge_into(&self, inverted: bool, entry: &mut [u8]) {
+        merge(inverted, self.w, self.part, entry);
+    }
+
+    fn put(&self, entry: &mut [u8]) {
+        entry.copy_from_slice(self.part);
+    }
+
+    ghost some_bytes = { λ c. c.some_bytes };
+
+    ghost part_len = { λ c. c.part_len };
 }

@@ -1,16 +1,16 @@
 -- Building (document 01, sections 2, 4 and 7): 10, 21, then 23 with the cells wanted; else section 4's network.
 -- Assumes nothing.
-use Rattle.std.specs.Prelude.{◌≡◌, Bool, true, cond, not, ◌&&◌, ◌||◌, List, ◌++◌, ℕ, ◌*◌, ◌/◌, eqb, leb, length, get_or, drop}
+use Rattle.std.specs.Prelude.{◌≡◌, Bool, true, cond, not, ◌&&◌, ◌||◌, List, ◌++◌, ℕ, ◌*◌, ◌/◌, eqb, leb, length, get_or, drop, Ok}
 use Rattle.lists.specs.Written.{over}
 use Rattle.diagram.specs.Networks.Diagram.{Diagram}
 use Rattle.diagram.specs.Table.{network_of, cost, Solves, Fits}
 use Rattle.diagram.specs.Demands.{AsDrawn, Least}
-use Rattle.table.specs.declared.Answer.{Answer}
-use Rattle.table.specs.declared.Answer.TheVariants.{Done, ShortBuffer, NoTable, TooSmall}
-use Rattle.table.specs.declared.Outcome.{Outcome}
+use Rattle.table.specs.Answer.{Answer, Outcome, outcome_of}
+use Rattle.table.specs.declared.Refusal.TheVariants.{ShortBuffer, NoTable, TooSmall}
+use Rattle.table.specs.declared.Done.{Done}
 use Rattle.table.specs.declared.State.{State}
 use Rattle.table.specs.declared.Stage.TheVariants.{Network}
-use Rattle.table.specs.Answer.{unless, done, number, value}
+use Rattle.table.specs.Answer.{unless, done, number}
 use Rattle.table.specs.State.{order_of, stage_of, is_nothing}
 use Rattle.table.specs.Calls.{plane_size}
 use Rattle.fill.specs.Work.{work_size, zero_work}
@@ -42,7 +42,7 @@ unfoldable pub build_answer : State → List ℕ → List ℕ → List ℕ → L
 build_answer s values care work roots cells =
     unless (long_enough values care work roots) ShortBuffer
     (unless (not (is_nothing (stage_of s))) NoTable
-    (unless (leb (wanted s values care) (capacity cells)) (TooSmall (wanted s values care)) (Done (wanted s values care))))
+    (unless (leb (wanted s values care) (capacity cells)) (TooSmall (wanted s values care)) (Ok (wanted s values care))))
 
 -- the state with a network of so many cells: 'Build makes it network'
 abbrev pub network_state : State → ℕ → State
@@ -50,10 +50,7 @@ network_state s count = record { n = s.n; m = s.m; order = s.order; count = coun
 
 unfoldable pub build_outcome : State → List ℕ → List ℕ → List ℕ → List ℕ → List ℕ → Outcome
 build_outcome s values care work roots cells =
-    record {
-      answer = build_answer s values care work roots cells;
-      state = cond (done (build_answer s values care work roots cells)) (network_state s (wanted s values care)) s;
-    }
+    outcome_of (build_answer s values care work roots cells) (network_state s (wanted s values care))
 
 -- 'Every call that writes cells writes all 16 roots (unused ones zero) and leaves cells past the new count unchanged'
 unfoldable pub build_roots : State → List ℕ → List ℕ → List ℕ → List ℕ → List ℕ → List ℕ
@@ -73,15 +70,15 @@ clears a = done a || eqb (number a) 23
 unfoldable pub build_work : State → List ℕ → List ℕ → List ℕ → List ℕ → List ℕ → List ℕ
 build_work s values care work roots cells = cond (clears (build_answer s values care work roots cells)) (zero_work work) work
 
--- Demands 2 and 3 after a success: r is what the call answers, D the diagram in the lent cells and roots, and this the board
-pub record Built (s : State) (values care : List ℕ) (r : Outcome) (D : Diagram) (board : ℕ) : Type 0 where
+-- Demands 2 and 3 after a success: r is what the call answers and leaves, D the diagram in the lent cells and roots, and this the board
+pub record Built (s : State) (values care : List ℕ) (r : Done) (D : Diagram) (board : ℕ) : Type 0 where
   -- well-formed, one root an output, and it computes the filled table
   pub solves : Solves true (held_table s values care) (order_of s) D
   -- it gives every cared row as drawn
   pub drawn : AsDrawn true (held_table s values care) (order_of s) D
   -- its cells are the state's count, 'which build also answers', and the board has them all
   pub counted : length D.nodes ≡ r.state.count
-  pub answered : length D.nodes ≡ value r.answer
+  pub answered : length D.nodes ≡ r.value
   pub fits : Fits D board
   -- no diagram for the filled table has fewer
-  pub least : Least true (held_table s values care) (order_of s) (value r.answer)
+  pub least : Least true (held_table s values care) (order_of s) r.value

@@ -5,7 +5,7 @@ use Rattle.std.specs.Prelude.{◌≡◌, Bool, true, List, ◌↔◌, ℕ}
 use Rattle.diagram.specs.Table.{filled_bit}
 use Rattle.diagram.specs.Canonical.SameCells.{SameBits}
 use Rattle.table.specs.declared.State.{State}
-use Rattle.table.specs.Answer.{done}
+use Rattle.table.specs.Answer.{done, state_after}
 use Rattle.table.specs.State.{order_of}
 use Rattle.fill.specs.Calls.{held_table}
 use Rattle.lent.specs.SameCells.{SameLent}
@@ -26,7 +26,7 @@ abbrev pub builds : Found → Bool
 builds b = done (build_answer b.state b.values b.care b.work b.roots b.cells)
 
 abbrev pub count_left : Found → ℕ
-count_left b = (build_outcome b.state b.values b.care b.work b.roots b.cells).state.count
+count_left b = (state_after b.state (build_outcome b.state b.values b.care b.work b.roots b.cells)).count
 
 abbrev pub cells_left : Found → List ℕ
 cells_left b = build_cells b.state b.values b.care b.work b.roots b.cells

@@ -1,7 +1,7 @@
 // Building section 4's network in lent cells.
-ghost use Rattle.std.specs.Prelude.{◌≡◌, true, ◌↔◌};
+ghost use Rattle.std.specs.Prelude.{◌≡◌, true, IfOk, ◌↔◌};
 ghost use Rattle.diagram.specs.Demands.{NoneFits};
-ghost use Rattle.table.specs.Answer.{done, number};
+ghost use Rattle.table.specs.Answer.{number, answer_of};
 ghost use Rattle.table.specs.State.{order_of};
 ghost use Rattle.fill.specs.Calls.{held_table};
 ghost use Rattle.lent.specs.Lent.{lent_diagram};
@@ -10,7 +10,7 @@ ghost use Rattle.network.specs.Build.{capacity, reaches_board, network_state, bu
 use crate::reading::lay_out;
 use fill::{clear, fill_table};
 use lent::ROOTS;
-use table::{Answer, Outcome, Stage, State};
+use table::{Done, Outcome, Refusal, Stage, State};
 
 // The state with a network of so many nodes.
 pub fn with_network(state: State, count: usize) -> State
@@ -42,38 +42,28 @@ pub fn build(
         ≡ build_cells state values.now care.now work.old roots.old cells.old }
     ensures work { work.new
         ≡ build_work state values.now care.now work.old roots.old cells.old }
-    ensures built { done result.answer ≡ true → Built state values.now care.now result
-        (lent_diagram result.state.count state.m cells.new roots.new) (capacity cells.new) }
+    ensures built { IfOk result (λ r. Built state values.now care.now r
+        (lent_diagram r.state.count state.m cells.new roots.new) (capacity cells.new)) }
     ensures fit { reaches_board state values.now care.now work.old roots.old ≡ true
-        → (number result.answer ≡ 23)
+        → (number (answer_of result) ≡ 23)
         ↔ NoneFits true (held_table state values.now care.now) (order_of state) (capacity cells.old) }
 {
     if roots.len() < ROOTS {
-        return Outcome {
-            answer: Answer::ShortBuffer,
-            state,
-        };
+        return Err(Refusal::ShortBuffer);
     }
-    let levels = fill_table(state, values, care, work);
-    let answer = levels.answer;
-    let Answer::Done(total) = answer else {
-        return Outcome { answer, state };
-    };
+    let levels = fill_table(state, values, care, work)?;
+    let total = levels.cells;
     if cells.len() / 3 < total {
         clear(work);
-        return Outcome {
-            answer: Answer::TooSmall(total),
-            state,
-        };
+        return Err(Refusal::TooSmall(total));
     }
     let n = state.n;
     let m = state.m;
     let entries = levels.entries;
     let counts = levels.counts;
     lay_out(n, m, entries, counts, total, work, roots, cells);
-    let after = with_network(state, total);
-    Outcome {
-        answer: Answer::Done(total),
-        state: after,
-    }
+    Ok(Done {
+        value: total,
+        state: with_network(state, total),
+    })
 }

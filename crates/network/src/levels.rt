@@ -31,9 +31,9 @@ fn read_entry(
     next: usize,
     cells: &mut [u16],
 ) -> usize
-    requires p_lt_most_variables { (p < most_variables) × (below ≤ work_size) × (i < work_size) × (i + 1 < length work.old) }
-    requires next_bound { 2 * (entry_made p below i (made work.old cells.old next)).next + 1 < stored_limit }
-    requires next_in_bounds { 3 * (entry_made p below i (made work.old cells.old next)).next ≤ length cells.old }
+    requires in_work { (p < most_variables) × (below ≤ work_size) × (i < work_size) × (i + 1 < length work.old) }
+    requires small { 2 * (entry_made p below i (made work.old cells.old next)).next + 1 < stored_limit }
+    requires room { 3 * (entry_made p below i (made work.old cells.old next)).next ≤ length cells.old }
     ensures { made work.new cells.new result ≡ entry_made p below i (made work.old cells.old next) }
 {
     let k = stored_at(work, i);
@@ -62,9 +62,9 @@ fn read_level(
     base: usize,
     cells: &mut [u16],
 ) -> usize
-    requires p_lt_most_variables { (p < most_variables) × (below ≤ work_size) × (i + 4 * e ≤ work_size) × (i + 4 * e ≤ length work.old) }
-    requires base_bound { 2 * (level_made p below i e (made work.old cells.old base)).next + 1 < stored_limit }
-    requires base_in_bounds { 3 * (level_made p below i e (made work.old cells.old base)).next ≤ length cells.old }
+    requires in_work { (p < most_variables) × (below ≤ work_size) × (i + 4 * e ≤ work_size) × (i + 4 * e ≤ length work.old) }
+    requires small { 2 * (level_made p below i e (made work.old cells.old base)).next + 1 < stored_limit }
+    requires room { 3 * (level_made p below i e (made work.old cells.old base)).next ≤ length cells.old }
     ensures { made work.new cells.new result ≡ level_made p below i e (made work.old cells.old base) }
 {
     let mut next = base;
@@ -81,9 +81,8 @@ pub(crate) fn links_end(n: usize, m: usize, entries: [usize; VARIABLES]) -> usiz
     ensures { result ≡ level_at m entries n }
 {
     let mut end = LINKS + 2 * m;
-    for p in 0..n {
-        let e = entries[p];
-        end += 4 * e;
+    for e in &entries[..n] {
+        end += 4 * *e;
     }
     end
 }
@@ -99,17 +98,15 @@ pub(crate) fn read_levels(
     work: &mut [u8],
     cells: &mut [u16],
 )
-    requires n_le_most_variables { (n ≤ most_variables) × (end ≡ level_at m entries n) × (end ≤ work_size) × (end ≤ length work.old) }
-    requires total_value { (total ≡ sum_below (λ q. get_or counts q 0) n) × (2 * total + 1 < stored_limit) × (3 * total ≤ length cells.old) }
-    requires by_index { (q : ℕ) → q < n → (levels_made m entries counts q (n - q) (made work.old cells.old 0)).next ≤ total }
+    requires in_work { (n ≤ most_variables) × (end ≡ level_at m entries n) × (end ≤ work_size) × (end ≤ length work.old) }
+    requires all_nodes { (total ≡ sum_below (λ q. get_or counts q 0) n) × (2 * total + 1 < stored_limit) × (3 * total ≤ length cells.old) }
+    requires nodes_in_all { (q : ℕ) → q < n → (levels_made m entries counts q (n - q) (made work.old cells.old 0)).next ≤ total }
     ensures work { work.new ≡ (levels_made m entries counts 0 n (made work.old cells.old 0)).work }
     ensures cells { cells.new ≡ (levels_made m entries counts 0 n (made work.old cells.old 0)).cells }
 {
-    let mut p = n;
     let mut below = end;
     let mut base = total;
-    while 0 < p {
-        p -= 1;
+    for p in (0..n).rev() {
         let e = entries[p];
         let i = below - 4 * e;
         base -= counts[p];

@@ -6,7 +6,7 @@ ghost use Rattle.network.specs.Levels.{stored_limit, stored_at, put_stored, ref_
 
 use block::bits::number_at;
 
-// The number at byte i.
+// The number at byte i. Bytes past the end are zero, so it is no from_le_bytes.
 pub(crate) fn stored_at(work: &[u8], i: usize) -> usize
     requires { i < 4 * stored_limit }
     ensures { (result ≡ stored_at work.now i) × (result < stored_limit) }
@@ -21,8 +21,9 @@ pub(crate) fn put_stored(work: &mut [u8], i: usize, x: usize)
     requires { (i + 1 < length work.old) × (x < stored_limit) }
     ensures { work.new ≡ put_stored work.old i x }
 {
-    work[i] = (x % 256) as u8;
-    work[i + 1] = (x / 256) as u8;
+    let [low, high] = (x as u16).to_le_bytes();
+    work[i] = low;
+    work[i + 1] = high;
 }
 
 // The reference to the inverse, where odd is true.
@@ -39,6 +40,7 @@ pub fn turned(r: usize, odd: bool) -> usize
 }
 
 // The reference that link number k stands for, where the references of the entries below stand from byte `below` on.
+#[tactic(auto, unfolding(crate::specs::Levels::ref_at))]
 pub(crate) fn link_ref(work: &[u8], below: usize, k: usize) -> usize
     requires { (below ≤ work_size) × (k < stored_limit) }
     ensures { (result ≡ ref_at work.now below k) × (result < stored_limit) }

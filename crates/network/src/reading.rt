@@ -13,7 +13,7 @@ use crate::roots::write_roots;
 use diagram::VARIABLES;
 use fill::{LINKS, clear, count_links};
 use lent::ROOTS;
-use table::Answer;
+use table::{Answer, Refusal};
 
 // Reads the levels and the outputs off the links in the work buffer, and clears it.
 pub(crate) fn lay_out(
@@ -60,18 +60,15 @@ pub fn read_links(
     ensures work { work.new ≡ read_links_work n m entries work.old roots.old cells.old }
 {
     if roots.len() < ROOTS {
-        return Answer::ShortBuffer;
+        return Err(Refusal::ShortBuffer);
     }
-    let levels = count_links(n, m, entries, work);
-    let answer = levels.answer;
-    let Answer::Done(total) = answer else {
-        return answer;
-    };
+    let levels = count_links(n, m, entries, work)?;
+    let total = levels.cells;
     if cells.len() / 3 < total {
         clear(work);
-        return Answer::TooSmall(total);
+        return Err(Refusal::TooSmall(total));
     }
     let counts = levels.counts;
     lay_out(n, m, entries, counts, total, work, roots, cells);
-    Answer::Done(total)
+    Ok(total)
 }

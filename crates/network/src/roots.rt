@@ -11,6 +11,7 @@ use fill::LINKS;
 use lent::ROOTS;
 
 // The root of output j, of m; zero past them.
+#[tactic(auto, unfolding(crate::specs::Levels::root_at, fill::specs::Work::links_at))]
 fn root_of(work: &[u8], m: usize, below: usize, j: usize) -> usize
     requires { (below ≤ work_size) × (j < most_outputs) }
     ensures { (result ≡ root_at work.now m below j) × (result < stored_limit) }
@@ -27,8 +28,7 @@ pub(crate) fn write_roots(work: &[u8], m: usize, below: usize, roots: &mut [u16]
     requires { (below ≤ work_size) × (roots_size ≤ length roots.old) }
     ensures { roots.new ≡ over (root_at work.now m below) roots_size roots.old }
 {
-    for j in 0..ROOTS {
-        let r = root_of(work, m, below, j);
-        roots[j] = r as u16;
+    for (j, root) in roots[..ROOTS].iter_mut().enumerate() {
+        *root = root_of(work, m, below, j) as u16;
     }
 }

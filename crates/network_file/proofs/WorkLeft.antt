@@ -6,7 +6,7 @@ use mathlib.Core.List.{List}
 use Prim.Native.Nat.{ℕ, ◌≤◌}
 use lib.ListN.{length}
 use Rattle.lists.proofs.Bools.{split}
-use Rattle.table.specs.declared.Answer.{Answer}
+use Rattle.table.specs.Answer.{Answer}
 use Rattle.fill.specs.Work.{work_size, zero_work, cleared_work}
 use Rattle.fill.proofs.Calls.Answers.{cleared-zero}
 use Rattle.network_file.specs.Read.{clears_checked}

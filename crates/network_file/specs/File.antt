@@ -1,11 +1,11 @@
 -- Request 2.2 of document 02, the network file: 'Kind 4 is the heading: n, m and order as in a table heading, bytes 16–17 the count, bytes
 -- 18–49 the sixteen roots. Kind 5 blocks carry 84 cells of three 16-bit numbers each.' And its refusals: 1 to 7, in sequence.
 -- Assumes nothing.
-use Rattle.std.specs.Prelude.{◌&&◌, List, ℕ, suc, ◌+◌, ◌*◌, ◌-◌, ◌/◌, ◌%◌, min, eqb, length}
+use Rattle.std.specs.Prelude.{◌&&◌, List, ℕ, suc, ◌+◌, ◌*◌, ◌-◌, ◌/◌, ◌%◌, min, eqb, length, Ok}
 use Rattle.diagram.specs.Networks.Diagram.{Node, Diagram}
 use Rattle.block.specs.Block.{block_size, content_at, whole_blocks, byte, good_check, good_number, unused_zero, unused_between}
-use Rattle.table.specs.declared.Answer.{Answer}
-use Rattle.table.specs.declared.Answer.TheVariants.{Done, BadLength, BadCheck, BadKind, BadContent}
+use Rattle.table.specs.Answer.{Answer}
+use Rattle.table.specs.declared.Refusal.TheVariants.{BadLength, BadCheck, BadKind, BadContent}
 use Rattle.table.specs.Answer.{unless, unless_refused, first_refusal}
 use Rattle.table.specs.File.{file_inputs, file_outputs, shape_answer}
 use Rattle.lent.specs.Lent.{node_by, diagram_by}
@@ -52,7 +52,7 @@ cell_blocks count = (count + (block_cells - 1)) / block_cells
 -- of the heading, 7: past the order to the count, and past the roots of the outputs, 'unused roots are zero'
 unfoldable pub unused_heading : List ℕ → Answer
 unused_heading file =
-    unless (unused_between file 0 (6 + file_inputs file) count_at && unused_zero file 0 (roots_at + 2 * file_outputs file)) BadContent (Done 0)
+    unless (unused_between file 0 (6 + file_inputs file) count_at && unused_zero file 0 (roots_at + 2 * file_outputs file)) BadContent (Ok 0)
 
 -- 'for block 0: 2, 3, 4, 5, 6, 7'
 unfoldable pub network_heading : List ℕ → Answer
@@ -69,7 +69,7 @@ unfoldable pub cells_block : ℕ → List ℕ → ℕ → Answer
 cells_block count file k =
     unless (good_check file k) BadCheck
     (unless (eqb (byte file k 0) 5 && good_number file k) BadKind
-    (unless (unused_zero file k (content_at + 2 * carried_numbers count k)) BadContent (Done 0)))
+    (unless (unused_zero file k (content_at + 2 * carried_numbers count k)) BadContent (Ok 0)))
 
 -- 'with the block total for the count under 1', then each further block
 unfoldable pub cells_answer : List ℕ → ℕ → Answer

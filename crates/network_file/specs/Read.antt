@@ -1,14 +1,13 @@
 -- Request 2.2 of document 02, reading a network file: 10, what the file answers, 23, 24, 32.
 -- Assumes nothing.
-use Rattle.std.specs.Prelude.{◌≡◌, Bool, true, cond, ◌||◌, List, ℕ, ◌*◌, eqb, leb, length}
+use Rattle.std.specs.Prelude.{◌≡◌, Bool, true, cond, ◌||◌, List, ℕ, ◌*◌, eqb, leb, length, Ok}
 use Rattle.lists.specs.Written.{over}
 use Rattle.diagram.specs.Networks.Diagram.{Diagram, well_formed}
 use Rattle.diagram.specs.Table.{Table, Solves, Fits}
 use Rattle.diagram.specs.Demands.{AsDrawn, Least}
 use Rattle.diagram.specs.Canonical.Computed.{computed_table, canonical}
-use Rattle.table.specs.declared.Answer.{Answer}
-use Rattle.table.specs.declared.Answer.TheVariants.{Done, ShortBuffer, TooSmall, BadCells, NotCanonical}
-use Rattle.table.specs.declared.Outcome.{Outcome}
+use Rattle.table.specs.Answer.{Answer, Outcome, outcome_of}
+use Rattle.table.specs.declared.Refusal.TheVariants.{ShortBuffer, TooSmall, BadCells, NotCanonical}
 use Rattle.table.specs.declared.State.{State}
 use Rattle.table.specs.declared.Stage.TheVariants.{Network}
 use Rattle.table.specs.Answer.{unless, unless_refused, number, done}
@@ -29,7 +28,7 @@ read_answer file values care work roots cells =
     (unless_refused (network_file_answer file)
     (unless (leb (file_count file) (capacity cells)) (TooSmall (file_count file))
     (unless (well_formed true (file_inputs file) (file_outputs file) (file_diagram file)) BadCells
-    (unless (canonical true (file_inputs file) (file_outputs file) (file_order file) (file_diagram file)) NotCanonical (Done 0)))))
+    (unless (canonical true (file_inputs file) (file_outputs file) (file_order file) (file_diagram file)) NotCanonical (Ok 0)))))
 
 -- 'Reading leaves stage network'; order entries past n are zero
 abbrev pub read_state : List ℕ → State
@@ -42,12 +41,8 @@ read_state file =
       stage = Network;
     }
 
-unfoldable pub read_outcome : State → List ℕ → List ℕ → List ℕ → List ℕ → List ℕ → List ℕ → Outcome
-read_outcome s file values care work roots cells =
-    record {
-      answer = read_answer file values care work roots cells;
-      state = cond (done (read_answer file values care work roots cells)) (read_state file) s;
-    }
+unfoldable pub read_outcome : List ℕ → List ℕ → List ℕ → List ℕ → List ℕ → List ℕ → Outcome
+read_outcome file values care work roots cells = outcome_of (read_answer file values care work roots cells) (read_state file)
 
 -- 'the table that the cells compute in values, and every row cared'
 abbrev pub read_table : List ℕ → Table

@@ -6,7 +6,7 @@ use Rattle.diagram.specs.Table.{Table}
 use Rattle.diagram.specs.Canonical.SameCells.{SameBits, value_at}
 use Rattle.block.specs.Numbers.{are_bytes}
 use Rattle.table.specs.declared.State.{State}
-use Rattle.table.specs.Answer.{done}
+use Rattle.table.specs.Answer.{done, state_after}
 use Rattle.table.specs.State.{order_of}
 use Rattle.fill.specs.Calls.{held_table}
 use Rattle.network_file.specs.Read.{read_answer, read_outcome, read_values, read_care}
@@ -27,7 +27,7 @@ abbrev pub reads : Found → Bool
 reads f = done (read_answer f.file f.values f.care f.work f.roots f.cells)
 
 abbrev pub state_left : Found → State
-state_left f = (read_outcome f.state f.file f.values f.care f.work f.roots f.cells).state
+state_left f = state_after f.state (read_outcome f.file f.values f.care f.work f.roots f.cells)
 
 -- 'the table that the cells compute in values, and every row cared'
 abbrev pub table_left : Found → Table

@@ -6,8 +6,8 @@ use Rattle.diagram.specs.Networks.Bound.{most_nodes}
 use Rattle.block.specs.Block.{block_size, content_at}
 use Rattle.block.specs.Numbers.{number_byte}
 use Rattle.block.specs.Sealed.{headed, sealed}
-use Rattle.table.specs.declared.Answer.{Answer}
-use Rattle.table.specs.declared.Answer.TheVariants.{ShortBuffer}
+use Rattle.table.specs.Answer.{Answer}
+use Rattle.table.specs.declared.Refusal.TheVariants.{ShortBuffer}
 use Rattle.table.specs.declared.State.{State}
 use Rattle.table.specs.Answer.{unless, done}
 use Rattle.fill.specs.Work.{work_size, zero_work}

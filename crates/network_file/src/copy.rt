@@ -9,12 +9,13 @@ use crate::numbers::{cell_number, file_root};
 use lent::ROOTS;
 
 // Copies all the roots.
+#[tactic(auto, unfolding(lent::specs::Lent::roots_size))]
 pub(crate) fn copy_roots(file: &[u8], roots: &mut [u16])
     requires { roots_size ≤ length roots.old }
     ensures { roots.new ≡ over (file_root file.now) roots_size roots.old }
 {
-    for j in 0..ROOTS {
-        roots[j] = file_root(file, j) as u16;
+    for (j, root) in roots[..ROOTS].iter_mut().enumerate() {
+        *root = file_root(file, j) as u16;
     }
 }
 
@@ -23,8 +24,7 @@ pub(crate) fn copy_cells(file: &[u8], count: usize, cells: &mut [u16])
     requires { (count < number_limit) × (3 * count ≤ length cells.old) }
     ensures { cells.new ≡ over (cell_number file.now) (3 * count) cells.old }
 {
-    let end = 3 * count;
-    for x in 0..end {
-        cells[x] = cell_number(file, x) as u16;
+    for (x, number) in cells[..3 * count].iter_mut().enumerate() {
+        *number = cell_number(file, x) as u16;
     }
 }

@@ -15,13 +15,7 @@ fn later_than(file: &[u8], count: usize, p: usize, r: usize) -> bool
     requires { count < number_limit }
     ensures { result ≡ later true (cells_by count (cell_number file.now)) p r }
 {
-    if r < 2 {
-        return true;
-    }
-    if count + count + 1 < r {
-        return false;
-    }
-    p < cell_number(file, 3 * (r / 2 - 1))
+    r < 2 || r <= count + count + 1 && p < cell_number(file, 3 * (r / 2 - 1))
 }
 
 // Whether cell i, from 0, has a level below n and edges only to later levels or constants.
@@ -31,13 +25,9 @@ fn node_good(file: &[u8], count: usize, n: usize, i: usize) -> bool
 {
     let first = 3 * i;
     let p = cell_number(file, first);
-    if n <= p {
-        return false;
-    }
-    if !later_than(file, count, p, cell_number(file, first + 1)) {
-        return false;
-    }
-    later_than(file, count, p, cell_number(file, first + 2))
+    p < n
+        && later_than(file, count, p, cell_number(file, first + 1))
+        && later_than(file, count, p, cell_number(file, first + 2))
 }
 
 // Whether every counted cell is good.
@@ -46,12 +36,7 @@ fn nodes_good(file: &[u8], count: usize, n: usize) -> bool
     ensures { result ≡ all (node_good true n (cells_by count (cell_number file.now)))
         (cells_by count (cell_number file.now)).nodes }
 {
-    for i in 0..count {
-        if !node_good(file, count, n, i) {
-            return false;
-        }
-    }
-    true
+    (0..count).all(|i| node_good(file, count, n, i))
 }
 
 // Whether each of the first m roots is a constant or to a counted cell.
@@ -59,13 +44,7 @@ fn roots_good(file: &[u8], count: usize, m: usize) -> bool
     requires { (count < number_limit) × (m ≤ most_outputs) }
     ensures { result ≡ all (λ j. refers true (cells_by count (cell_number file.now)) (file_root file.now j)) (up_to m) }
 {
-    let most = count + count + 1;
-    for j in 0..m {
-        if most < file_root(file, j) {
-            return false;
-        }
-    }
-    true
+    (0..m).all(|j| file_root(file, j) <= count + count + 1)
 }
 
 // Whether the file's cells and roots are a well-formed diagram of n levels.
@@ -74,8 +53,5 @@ pub(crate) fn file_good(file: &[u8], count: usize, n: usize, m: usize) -> bool
     requires count_lt_number_limit { (count < number_limit) × (m ≤ most_outputs) }
     ensures { result ≡ well_formed true n m (file_diagram file.now) }
 {
-    if !roots_good(file, count, m) {
-        return false;
-    }
-    nodes_good(file, count, n)
+    roots_good(file, count, m) && nodes_good(file, count, n)
 }

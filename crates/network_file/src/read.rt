@@ -1,7 +1,6 @@
 // Reading a network file: all of it is found good before a byte is written (document 02, 2.2).
-ghost use Rattle.std.specs.Prelude.{◌≡◌, true, ◌*◌};
+ghost use Rattle.std.specs.Prelude.{◌≡◌, IfOk, ◌*◌};
 ghost use Rattle.lists.specs.Written.{over};
-ghost use Rattle.table.specs.Answer.{done};
 ghost use Rattle.table.specs.Stream.{plane_byte};
 ghost use Rattle.table.specs.Calls.{plane_size};
 ghost use Rattle.lent.specs.Lent.{roots_size, lent_diagram};
@@ -19,8 +18,7 @@ use crate::work::clear_after;
 use fill::WORK;
 use lent::ROOTS;
 use lent::tabulate::tabulate;
-use table::numbers::is_done;
-use table::{Answer, Outcome, PLANE, State};
+use table::{Answer, Done, Outcome, PLANE, Refusal, State};
 
 // Whether no buffer is short.
 fn long_enough(values: &[u8], care: &[u8], work: &[u8], roots: &[u16]) -> bool
@@ -51,15 +49,12 @@ fn answer_of(
         cells.now }
 {
     if !long_enough(values, care, work, roots) {
-        return Answer::ShortBuffer;
+        return Err(Refusal::ShortBuffer);
     }
-    let answer = file_answer(file);
-    if !is_done(answer) {
-        return answer;
-    }
+    file_answer(file)?;
     let count = file_count(file);
     if cells.len() / 3 < count {
-        return Answer::TooSmall(count);
+        return Err(Refusal::TooSmall(count));
     }
     checked_answer(file)
 }
@@ -83,12 +78,11 @@ fn write_network(
     let count = file_count(file);
     copy_roots(file, roots);
     copy_cells(file, count, cells);
-    tabulate(after, roots, cells, values, care);
+    let _ = tabulate(after, roots, cells, values, care);
 }
 
 // Reads a network file. Refuses with 10, by the file, 23 with its count, 24, 32; a refusal leaves all but the work buffer as it was.
 pub fn read_cells(
-    state: State,
     file: &[u8],
     values: &mut [u8],
     care: &mut [u8],
@@ -96,7 +90,7 @@ pub fn read_cells(
     roots: &mut [u16],
     cells: &mut [u16],
 ) -> Outcome
-    ensures outcome { result ≡ read_outcome state file.now values.old care.old work.old roots.old
+    ensures outcome { result ≡ read_outcome file.now values.old care.old work.old roots.old
         cells.old }
     ensures values { values.new
         ≡ read_values file.now values.old care.old work.old roots.old
@@ -113,18 +107,16 @@ pub fn read_cells(
     ensures cells { cells.new
         ≡ read_cells file.now values.old care.old work.old roots.old
         cells.old }
-    ensures given { done result.answer ≡ true → Given result.state values.new care.new
-        (lent_diagram result.state.count result.state.m cells.new roots.new) (capacity cells.new) }
+    ensures given { IfOk result (λ r. Given r.state values.new care.new
+        (lent_diagram r.state.count r.state.m cells.new roots.new) (capacity cells.new)) }
 {
     let answer = answer_of(file, values, care, work, roots, cells);
     clear_after(answer, work);
-    if !is_done(answer) {
-        return Outcome { answer, state };
-    }
+    let value = answer?;
     let after = file_state(file);
     write_network(file, after, values, care, roots, cells);
-    Outcome {
-        answer,
+    Ok(Done {
+        value,
         state: after,
-    }
+    })
 }

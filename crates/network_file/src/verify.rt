@@ -12,19 +12,20 @@ ghost use Rattle.network_file.specs.Inner.Checked.{checked_answer};
 use crate::copy::{copy_cells, copy_roots};
 use crate::good::file_good;
 use crate::numbers::file_count;
-use block::block::block_byte;
+use block::block::Block;
 use canonical::held::test_held;
 use diagram::NODES;
 use lent::ROOTS;
 use table::order::read_order;
-use table::{Answer, Stage, State};
+use table::{Answer, Refusal, Stage, State};
 
 // The state that a file's heading says, with the network.
 pub(crate) fn file_state(file: &[u8]) -> State
     ensures { result ≡ read_state file.now }
 {
-    let n = block_byte(file, 0, 4);
-    let m = block_byte(file, 0, 5);
+    let heading = Block { file, number: 0 };
+    let n = heading.byte(4);
+    let m = heading.byte(5);
     let order = read_order(file, n);
     let count = file_count(file);
     State {
@@ -66,12 +67,13 @@ fn many_answer(file: &[u8], count: usize) -> Answer
     requires count_value { (count ≡ file_count file.now) × (most_nodes < count) × (count < number_limit) }
     ensures { result ≡ checked_answer file.now }
 {
-    let n = block_byte(file, 0, 4);
-    let m = block_byte(file, 0, 5);
+    let heading = Block { file, number: 0 };
+    let n = heading.byte(4);
+    let m = heading.byte(5);
     if file_good(file, count, n, m) {
-        return Answer::NotCanonical;
+        return Err(Refusal::NotCanonical);
     }
-    Answer::BadCells
+    Err(Refusal::BadCells)
 }
 
 // What the cells and roots answer: 24, 32, or 0.

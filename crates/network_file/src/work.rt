@@ -4,21 +4,16 @@ ghost use Rattle.fill.specs.Work.{cleared_work};
 ghost use Rattle.network_file.specs.Read.{clears_checked};
 
 use fill::clear;
-use table::Answer;
-use table::numbers::number_of;
+use table::{Answer, Refusal};
 
 // Whether an answer leaves the work buffer zero: a success, 23 and 32.
 fn clears_work(answer: Answer) -> bool
     ensures { result ≡ clears_checked answer }
 {
-    let number = number_of(answer);
-    if number == 0 {
-        return true;
-    }
-    if number == 23 {
-        return true;
-    }
-    number == 32
+    matches!(
+        answer,
+        Ok(_) | Err(Refusal::TooSmall(_)) | Err(Refusal::NotCanonical)
+    )
 }
 
 // Makes the work buffer zero after an answer that leaves it so.

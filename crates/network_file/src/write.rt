@@ -8,8 +8,7 @@ use crate::work::clear_after;
 use canonical::held::test_held;
 use fill::WORK;
 use lent::ROOTS;
-use table::numbers::is_done;
-use table::{Answer, State};
+use table::{Answer, Refusal, State};
 
 // Writes the network file of the held cells; bytes past it stay. Refuses with 10, 22, 24, 32; a refusal writes no byte of the file.
 // The work buffer is zero after a success and after 32.
@@ -25,17 +24,17 @@ pub fn write_cells(
     ensures file { file.new ≡ written_file state roots.now cells.now work.old file.old }
 {
     if roots.len() < ROOTS {
-        return Answer::ShortBuffer;
+        return Err(Refusal::ShortBuffer);
     }
     if work.len() < WORK {
-        return Answer::ShortBuffer;
+        return Err(Refusal::ShortBuffer);
     }
     if file.len() < FILE {
-        return Answer::ShortBuffer;
+        return Err(Refusal::ShortBuffer);
     }
     let answer = test_held(state, roots, cells);
     clear_after(answer, work);
-    if is_done(answer) {
+    if answer.is_ok() {
         write_blocks(state, roots, cells, file);
     }
     answer

@@ -5,7 +5,7 @@ use Rattle.std.specs.Prelude.{◌≡◌, true, cond, List, [], ◌∷◌, ◌++�
 use Rattle.lists.specs.Written.{over}
 use Rattle.diagram.specs.Networks.Diagram.{Diagram}
 use Rattle.diagram.specs.Table.{network_of}
-use Rattle.table.specs.declared.Answer.{Answer}
+use Rattle.table.specs.Answer.{Answer}
 use Rattle.table.specs.declared.State.{State}
 use Rattle.table.specs.Answer.{number, done}
 use Rattle.table.specs.Stream.{table_of}

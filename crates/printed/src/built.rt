@@ -7,8 +7,6 @@ use crate::input::load_input;
 use diagram::NODES;
 use network::build::build;
 use table::Outcome;
-use table::load::unloaded;
-use table::numbers::is_done;
 
 // The numbers of the cells that any table needs.
 pub const CELL_NUMBERS: usize = 3 * NODES;
@@ -36,11 +34,6 @@ pub fn build_input(
         ≡ built_cells file.now values.old care.old work.old roots.old
         cells.old }
 {
-    let outcome = load_input(unloaded(), file, values, care);
-    let answer = outcome.answer;
-    let state = outcome.state;
-    if !is_done(answer) {
-        return outcome;
-    }
-    build(state, values, care, work, roots, cells)
+    let loaded = load_input(file, values, care)?;
+    build(loaded.state, values, care, work, roots, cells)
 }

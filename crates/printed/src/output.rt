@@ -14,7 +14,7 @@ use crate::refusal::refusal;
 use fill::WORK;
 use lent::ROOTS;
 use table::cared::cared;
-use table::numbers::{is_done, value_of};
+use table::numbers::value_of;
 use table::{Outcome, PLANE, State};
 use text::held::network_text;
 
@@ -39,12 +39,13 @@ fn print_outcome(
     ensures { Written out.old out.new 0 result
         (outcome_text outcome care.now roots.now cells.now) }
 {
-    let answer = outcome.answer;
-    let state = outcome.state;
-    if !is_done(answer) {
-        return refusal(out, answer);
+    match outcome {
+        Ok(built) => {
+            let state = built.state;
+            network_text(out, state, cared_bits(state, care), roots, cells)
+        }
+        Err(refused) => refusal(out, Err(refused)),
     }
-    network_text(out, state, cared_bits(state, care), roots, cells)
 }
 
 // Reads the table in a program's input, builds its network in the file's order, and prints it as far as there is room; or the refusal.

@@ -8,7 +8,7 @@ use native.Mathlib.Omega.{arith}
 use borrow.Author.Tests.{lt-ltb, le-ltb, lt-leb, le-leb}
 use lib.Dec.{ltb}
 use lib.ListN.{length, get_or, take, drop, replicate, length-append, length-replicate, get_or-replicate}
-use lib.Seq.{ext_get_or, take_at}
+use lib.Seq.{ext_get_or, take_at, get_or-take, get_or-drop}
 use Rattle.lists.specs.Lists.{up_to}
 use Rattle.lists.specs.Bits.{packed}
 use Rattle.lists.proofs.Numbers.UpTo.{map-up_to-cong, get_or-map-up_to, length-map-up_to}
@@ -23,7 +23,7 @@ use Rattle.block.specs.Bits.{stream_bit}
 use Rattle.table.specs.Stream.{table_of}
 use Rattle.reorder.specs.Sizes.{width, most_rows, part_size}
 use Rattle.reorder.specs.Pack.{pack, encode}
-use Rattle.reorder.specs.Gather.{row_map, gathered_plane, gathered_part, output_part}
+use Rattle.reorder.specs.Gather.{row_map, gathered_byte, gathered_plane, gathered_part, output_part}
 use Rattle.reorder.proofs.DrawnBytes.{draw-bytes}
 use Rattle.reorder.proofs.Shifts.{rows-room, byte-within}
 
@@ -62,6 +62,15 @@ module _ (n : ℕ) (order : List ℕ) (fits : n ≤ most_variables) where
       ap (λ r. gathered_part values care r n j) e
       ∙ ap₂ ◌++◌ (plane-bytes values (j * 2 ^ n) (t.row j) (λ r. r.value) (λ r. refl))
       (plane-bytes care (j * 2 ^ n) (t.row j) (λ r. r.care) (λ r. refl))
+
+-- the rows of byte i, cut out of the map
+pub gathered-rows : (plane : List ℕ) (base : ℕ) (map : List ℕ) (k i n : ℕ) (rows : List ℕ) → rows ≡ take n (drop (8 * i) map) → n ≡ k
+    → length rows ≡ k → packed (length rows) (λ b. stream_bit plane (base + get_or rows b 0)) ≡ gathered_byte plane base map k i
+gathered-rows plane base map k i n rows cut same long =
+    ap (λ m. packed m (λ b. stream_bit plane (base + get_or rows b 0))) long
+    ∙ packed-cong k _ (λ b. stream_bit plane (base + get_or map (8 * i + b) 0))
+    (λ b h. ap (λ x. stream_bit plane (base + x))
+    (ap (λ (r : List ℕ). get_or r b 0) cut ∙ get_or-take n (drop (8 * i) map) b 0 (omega arith) ∙ get_or-drop (8 * i) map b 0))
 
 -- an array of zeros is a map of no rows, and that of variables that are too many
 

@@ -5,4 +5,3 @@ pub mod Pack
 pub mod RowBits
 pub mod Shares
 pub mod Shifts
-pub mod WrittenBytes

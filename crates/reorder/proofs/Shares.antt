@@ -57,9 +57,6 @@ module _ (n : ℕ) (order : List ℕ) where
   abbrev pub level_bit : ℕ → ℕ
   level_bit v = n - suc (index eqb v (take n order))
 
-  pub shares-none : replicate most_variables 0 ≡ shares_of 0
-  shares-none = map-up_to-cong most_variables (λ l. 0) (share 0) (λ l _. omega arith)
-
   share-more : (v l : ℕ) → v < n → share v l + digit (eqb l (level_bit v)) * 2 ^ (n - 1 - v) ≡ share (v + 1) l
   share-more v l h =
       let a : ℕ → Bool = λ w. bit n (index eqb w (take n order)) (2 ^ l) in
@@ -102,3 +99,7 @@ module _ (n : ℕ) (order : List ℕ) where
       ap shares_of e
       ∙ map-up_to-cong most_variables (share n) (λ l. behind n (take n order) (2 ^ l))
       (λ l _. let d : n - n ≡ 0 = omega arith in rw d (omega arith))
+
+  pub length-shares : length (row_shares n order) ≡ most_variables
+  unfolding row_shares
+  length-shares = length-map-up_to (λ l. behind n (take n order) (2 ^ l)) most_variables

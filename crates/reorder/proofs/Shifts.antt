@@ -5,7 +5,9 @@ use mathlib.Core.Bool.{Bool, cond}
 use Prim.Native.Nat.{ℕ, ◌+◌, ◌*◌, ◌-◌, ◌%◌, ◌^◌, ◌≤◌, ◌<◌, min}
 use native.Mathlib.Nat.{lt_of_lt_of_le, min-eq_left, min-eq_right, le_of_lt}
 use native.Mathlib.Omega.{arith}
-use borrow.Author.Tests.{le-leb, lt-leb}
+use borrow.Author.Tests.{le-leb, lt-leb, leb-true}
+use lib.Dec.{leb}
+use Rattle.lists.proofs.Bools.{split}
 use lib.Pow.{pow-add, pow_mono, shl_lt}
 use Rattle.lists.proofs.Bits.Digits.{one_shifted}
 use Rattle.diagram.specs.Networks.Bound.{most_variables, most_outputs}
@@ -40,9 +42,6 @@ width-shifted n h k =
     let q : 2 ^ n ≡ 2 ^ (n - 3) * 8 = ap (λ j. 2 ^ j) (sym e) ∙ pow-add 2 (n - 3) 3 in
     omega (arith, one_shifted (n - 3) (omega arith), width-rows n h)
 
-pub rows_few : (n : ℕ) → n < 3 → 1 * 2 ^ n % 18446744073709551616 ≡ min 8 (2 ^ n)
-rows_few n h = one_shifted n (omega arith) ∙ sym (min-eq_right (pow_mono {j = 3} (le_of_lt h)))
-
 pub rows-eight : (n : ℕ) → 3 ≤ n → 8 ≡ min 8 (2 ^ n)
 rows-eight n h = sym (min-eq_left (pow_mono {i = 3} h))
 
@@ -68,3 +67,9 @@ width-met d h = ap (λ (b : Bool). cond b (width d) 0) (le-leb d most_variables 
 pub width-past : (d : ℕ) → most_variables < d → 0 ≡ width_up_to d
 unfolding width_up_to
 width-past d h = ap (λ (b : Bool). cond b (width d) 0) (sym (lt-leb d most_variables h))
+
+-- what is computed for a width fits a part, whatever d is
+pub width-up-room : (d : ℕ) → width_up_to d + width_up_to d ≤ part_size
+unfolding width_up_to
+width-up-room d =
+    split (leb d most_variables) (λ e. let h = leb-true d most_variables e in rw e (width_room d h)) (λ e. rw e (omega (arith, part-size)))

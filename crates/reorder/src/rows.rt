@@ -9,35 +9,30 @@ use crate::ROWS;
 use diagram::VARIABLES;
 use table::order::level_of;
 
-// The bit of level p in a row of n bits, counted from the lowest; past the levels the lowest.
-fn level_bit(n: usize, p: usize) -> usize
-    ensures { result ≡ n - suc p }
-{
-    if p < n { n - 1 - p } else { 0 }
-}
-
-// What each bit of a row adds to the drawn row behind it, the lowest bit first.
+// What each bit of a row adds to the drawn row behind it, the lowest bit first: that of level p is bit n - 1 - p.
 fn shares(order: [usize; VARIABLES], n: usize) -> [u16; VARIABLES]
     requires { n ≤ most_variables }
     ensures { result ≡ row_shares n order }
 {
     let mut shares = [0u16; VARIABLES];
     for v in 0..n {
-        let l = level_bit(n, level_of(order, n, v));
-        shares[l] += 1u16 << (n - 1 - v);
+        let bit = n.saturating_sub(level_of(order, n, v)).saturating_sub(1);
+        shares[bit] += 1u16 << (n - 1 - v);
     }
     shares
 }
 
 // The map with one bit more: after its first rows the same again, each with the share of that bit added.
 fn double(map: &mut [u16], count: usize, share: u16)
-    requires { (count + count ≤ length map.old) × ((s : ℕ) → s < count → get_or map.old s 0 + share < 65536) }
+    requires room { count + count ≤ length map.old }
+    requires rows_fit { (s : ℕ) → s < count → get_or map.old s 0 + share < 65536 }
     ensures { map.new
         ≡ take count map.old
         ++ (each (λ s. get_or map.old s 0 + share) (up_to count) ++ drop (count + count) map.old) }
 {
-    for s in 0..count {
-        map[count + s] = map[s] + share;
+    let (rows, rest) = map.split_at_mut(count);
+    for (s, row) in rows.iter().enumerate() {
+        rest[s] = *row + share;
     }
 }
 
@@ -50,8 +45,8 @@ pub fn row_map(order: [usize; VARIABLES], n: usize) -> [u16; ROWS]
         return map;
     }
     let shares = shares(order, n);
-    for l in 0..n {
-        double(&mut map, 1 << l, shares[l]);
+    for (l, share) in shares[..n].iter().enumerate() {
+        double(&mut map, 1 << l, *share);
     }
     map
 }

@@ -9,13 +9,11 @@ use diagram::VARIABLES;
 pub fn width_of(d: usize) -> usize
     ensures { result ≡ width_up_to d }
 {
-    if VARIABLES < d {
-        return 0;
+    match d {
+        0..3 => 1,
+        3..=VARIABLES => 1 << (d - 3),
+        _ => 0,
     }
-    if d < 3 {
-        return 1;
-    }
-    1 << (d - 3)
 }
 
 // The rows in each byte of those of n variables.
@@ -23,8 +21,5 @@ pub(crate) fn rows_in(n: usize) -> usize
     requires { n ≤ most_variables }
     ensures { result ≡ min 8 (2 ^ n) }
 {
-    if n < 3 {
-        return 1usize << n;
-    }
-    8
+    (1usize << n).min(8)
 }

@@ -1,14 +1,19 @@
 -- The lent counts: their sum one by one, and rows counted into them one after the other.
 -- Assumes nothing.
 use mathlib.Core.Path.{◌≡◌, refl, sym, ap, ◌∙◌}
-use mathlib.Core.Bool.{false}
 use mathlib.Core.List.{List, [], ◌∷◌, ◌++◌}
 use Prim.Native.Nat.{ℕ, zero, suc, ◌+◌, ◌-◌, ◌≤◌, ◌<◌}
 use native.Mathlib.Numerals.{add-one}
 use native.Mathlib.Omega.{arith}
-use borrow.Author.Tests.{eq-eqb, ne_eqb, lt-leb}
+use borrow.Author.Tests.{eq-eqb, ne_eqb}
 use lib.Dec.{T, eqb, ltb, leb, eqb→eq, ltb→lt, lt→ltb, leb→le, le→leb, nltb→le}
-use lib.ListN.{length, get_or, set, take, drop, length-set}
+use lib.ListN.{length, get_or, set, take, drop, length-set, get_or-eq_default}
+use Rattle.std.specs.List.{sum_by}
+use Rattle.std.proofs.lemmas.List.Sums.{sum_by_more}
+use Rattle.lists.proofs.Numbers.Sums.{sum-cong, sum-add, sum-zero}
+use mathlib.Core.List.{map, map-id}
+use lib.Seq.{length-take-le, get_or-take, take-length}
+use Prim.Native.Nat.{min}
 use lib.Seq.{take-suc, split_at, ext_get_or, get_or-set_same, get_or-set_other}
 use Rattle.lists.specs.Lists.{all}
 use Rattle.lists.specs.Bits.{digit}
@@ -17,7 +22,7 @@ use Rattle.lists.specs.Written.{over}
 use Rattle.lists.proofs.Bools.{split, to-T, to-not, and_T, and_l, and_r, both_ways}
 use Rattle.lists.proofs.Lists.Membership.{all-at}
 use Rattle.lists.proofs.Numbers.Compared.{differ, below_other}
-use Rattle.lists.proofs.Numbers.Sums.{sum-plus, sum-once, sum-zero}
+use Rattle.lists.proofs.Numbers.Sums.{sum-plus, sum-once}
 use Rattle.lists.proofs.Written.Over.{length_over, get_d_over, get_or-over-past}
 use Rattle.rowlog.specs.Log.{most_records, times, seen}
 
@@ -39,17 +44,38 @@ sum-at-least f (suc k) i h =
     split (eqb i k) (λ e. let d : f i ≡ f k = ap f (eqb→eq i k (to-T e)) in omega arith)
     (λ e. omega (arith, sum-at-least f k i (below_other i k h e)))
 
--- whether so many more are not too many, by what the sum leaves
+-- the sum as the library adds it up
 
-pub room-none : (records sum more : ℕ) → sum ≡ records → most_records < sum → false ≡ leb (records + more) most_records
-room-none records sum more e h = sym (lt-leb (records + more) most_records (omega arith))
+sum-taken : (xs : List ℕ) (k : ℕ) → k ≤ length xs → sum_by (λ x. x) (take k xs) ≡ sum_below (λ i. get_or xs i 0) k
+sum-taken xs zero h = refl
+sum-taken xs (suc k) h =
+    let e : suc k ≡ k + 1 = omega arith in
+    ap (λ (n : ℕ). sum_by (λ x. x) (take n xs)) e ∙ sum_by_more (λ x. x) xs k 0 (omega arith)
+    ∙ ap (λ (n : ℕ). n + get_or xs k 0) (sum-taken xs k (omega arith))
 
-pub room-left : (records sum more : ℕ) → sum ≡ records → sum ≤ most_records
-    → leb more (most_records - sum) ≡ leb (records + more) most_records
-room-left records sum more e h =
-    both_ways (leb more (most_records - sum)) (leb (records + more) most_records)
-    (λ t. le→leb (records + more) most_records (omega (arith, leb→le more (most_records - sum) t)))
-    (λ t. le→leb more (most_records - sum) (omega (arith, leb→le (records + more) most_records t)))
+pub sum_is : (xs : List ℕ) → sum_by (λ x. x) (map (λ x. x) xs) ≡ sum_below (λ i. get_or xs i 0) (length xs)
+sum_is xs = ap (sum_by (λ x. x)) (map-id xs ∙ sym (take-length xs)) ∙ sum-taken xs (length xs) (omega arith)
+
+-- past the end there is nothing to add
+pub sum-first : (xs : List ℕ) (end k : ℕ) → k ≡ min end (length xs)
+    → sum_below (λ i. get_or (take k xs) i 0) (length (take k xs)) ≡ sum_below (λ i. get_or xs i 0) end
+sum-first xs end k e =
+    let f : ℕ → ℕ = λ i. get_or xs i 0 in
+    let front : sum_below (λ i. get_or (take k xs) i 0) k ≡ sum_below f k =
+    sum-cong (λ i. get_or (take k xs) i 0) f k (λ i h. get_or-take k xs i 0 h) in
+    let rest : sum_below (λ i. f (k + i)) (end - k) ≡ 0 =
+    sum-cong (λ i. f (k + i)) (λ i. 0) (end - k) (λ i h. let past : length xs ≤ k + i = omega arith in get_or-eq_default xs 0 past) ∙ sum-zero (end - k) in
+    let all : k + (end - k) ≡ end = omega arith in
+    ap (sum_below (λ i. get_or (take k xs) i 0)) (length-take-le k xs (omega arith)) ∙ front
+    ∙ omega (arith, rest, sum-add f k (end - k), ap (sum_below f) all)
+
+-- whether so many more are not too many, where the sum stops at the largest number
+pub room_saturated : (records sum more all : ℕ) → sum ≡ records → all ≡ min (sum + more) 18446744073709551615
+    → leb all most_records ≡ leb (records + more) most_records
+room_saturated records sum more all e f =
+    both_ways (leb all most_records) (leb (records + more) most_records)
+    (λ t. le→leb (records + more) most_records (omega (arith, leb→le all most_records t)))
+    (λ t. le→leb all most_records (omega (arith, leb→le (records + more) most_records t)))
 
 -- one row more
 

@@ -1,6 +1,7 @@
 -- What a log leaves, row by row; and a log after another (document 02, 2.4): on what the first left, the second answers and leaves what
 -- one log of both lists would, whichever is in front.
 -- Assumes nothing.
+use Rattle.std.specs.Prelude.{Ok}
 use mathlib.Core.Path.{◌≡◌, sym, ap, ap₂, ◌∙◌, subst}
 use mathlib.Core.Bool.{Bool, true, not, ◌&&◌, and_comm}
 use mathlib.Core.List.{List, ◌++◌}
@@ -16,11 +17,12 @@ use Rattle.lists.proofs.Bools.{of_T, and_l}
 use Rattle.lists.proofs.Lists.Membership.{all-append-and}
 use Rattle.lists.proofs.Written.Over.{length_over}
 use Rattle.block.specs.Bits.{stream_bit}
-use Rattle.table.specs.declared.Answer.{Answer}
-use Rattle.table.specs.declared.Answer.TheVariants.{Done, NoRow, TooManyRecords}
+use Rattle.table.specs.Answer.{Answer}
+use Rattle.table.specs.declared.Refusal.TheVariants.{NoRow, TooManyRecords}
 use Rattle.table.specs.declared.Stage.{Stage}
 use Rattle.table.specs.declared.State.{State}
-use Rattle.table.specs.Answer.{unless, done}
+use Rattle.table.specs.Answer.{unless, done, state_after}
+use Rattle.table.proofs.Outcomes.{outcome-state}
 use Rattle.table.specs.State.{stage_of, is_nothing}
 use Rattle.table.specs.Stream.{table_of}
 use Rattle.table.specs.Calls.{plane_size}
@@ -44,7 +46,9 @@ leaving least rows found =
 
 left : (least : ℕ) (rows : List ℕ) (found : Logged) → T (accepted rows found) → logged least rows found ≡ leaving least rows found
 unfolding log_outcome log_counts log_care
-left least rows found t = rw (of_T {b = accepted rows found} t)
+left least rows found t =
+    let d = of_T {b = accepted rows found} t in
+    rw (d, outcome-state (log_answer found.state rows found.counts found.care) found.state (kept found.state) d)
 
 -- 'a row is cared for all outputs if seen at least r times, else free', read off the care
 pub care-logged : (s : State) (rows : List ℕ) (least : ℕ) (counts care : List ℕ) → T (done (log_answer s rows counts care))
@@ -63,7 +67,7 @@ care-logged s rows least counts care t j row h k =
 -- what a log that is done leaves is its table, at every row of every output, whatever values are lent
 
 module _ (s : State) (rows : List ℕ) (least : ℕ) (counts care : List ℕ) (t : T (done (log_answer s rows counts care))) where
-  pub state-logged : (log_outcome s rows counts care).state ≡ kept s
+  pub state-logged : state_after s (log_outcome s rows counts care) ≡ kept s
   state-logged = ap (λ (after : Logged). after.state) (left least rows (record { state = s; counts = counts; care = care }) t)
 
   pub row-logged : (values : List ℕ) (j row : ℕ) → j < s.m → row < 2 ^ s.n
@@ -84,7 +88,7 @@ known-append s first second = all-append-and (λ row. ltb row (2 ^ s.n)) first s
 rows-answer : (s : State) (rows counts care : List ℕ) → plane_size ≤ length care → not (is_nothing (stage_of s)) ≡ true
     → 2 ^ s.n ≤ length counts
     → log_answer s rows counts care
-    ≡ unless (known s rows) NoRow (unless (leb (records_of s counts + length rows) most_records) TooManyRecords (Done 0))
+    ≡ unless (known s rows) NoRow (unless (leb (records_of s counts + length rows) most_records) TooManyRecords (Ok 0))
 unfolding log_answer
 rows-answer s rows counts care long held enough =
     rw (le-leb plane_size (length care) long, held, le-leb (2 ^ s.n) (length counts) enough)
@@ -101,7 +105,7 @@ answer-then s first second least counts care p =
     (omega (arith, p.long, length_over (logged_byte s first least counts) plane_size care p.long))
     (ap (λ (stage : Stage). not (is_nothing stage)) (stage-good (kept s) (of_T (held-heading s p.held))))
     (omega (arith, p.enough, length_over (seen first counts) (2 ^ s.n) counts p.enough))
-    ∙ ap₂ (λ (b : Bool) (k : ℕ). unless b NoRow (unless (leb k most_records) TooManyRecords (Done 0))) rows records
+    ∙ ap₂ (λ (b : Bool) (k : ℕ). unless b NoRow (unless (leb k most_records) TooManyRecords (Ok 0))) rows records
     ∙ sym (rows-answer s (first ++ second) counts care p.long (of_T p.held) p.enough)
 
 module _ (first second : List ℕ) (found : Logged) where

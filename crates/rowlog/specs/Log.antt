@@ -1,16 +1,15 @@
 -- Request 2.4 of document 02, free rows from the floor's record: 10, 21, 10, 8, 33, then the counts as the rows raise them and the
 -- care that they give.
 -- Assumes nothing.
-use Rattle.std.specs.Prelude.{cond, not, ◌&&◌, List, [], ◌∷◌, ℕ, ◌+◌, ◌*◌, ◌%◌, ◌^◌, eqb, ltb, leb, length, get_or}
+use Rattle.std.specs.Prelude.{cond, not, ◌&&◌, List, [], ◌∷◌, ℕ, ◌+◌, ◌*◌, ◌%◌, ◌^◌, eqb, ltb, leb, length, get_or, Ok}
 use Rattle.lists.specs.Lists.{all}
 use Rattle.lists.specs.Bits.{digit, packed}
 use Rattle.lists.specs.Sums.{sum_below}
 use Rattle.lists.specs.Written.{over}
 use Rattle.diagram.specs.Table.{Table}
 use Rattle.block.specs.Bits.{stream_bit}
-use Rattle.table.specs.declared.Answer.{Answer}
-use Rattle.table.specs.declared.Answer.TheVariants.{Done, ShortBuffer, NoTable, NoRow, TooManyRecords}
-use Rattle.table.specs.declared.Outcome.{Outcome}
+use Rattle.table.specs.Answer.{Answer, Outcome, outcome_of}
+use Rattle.table.specs.declared.Refusal.TheVariants.{ShortBuffer, NoTable, NoRow, TooManyRecords}
 use Rattle.table.specs.declared.State.{State}
 use Rattle.table.specs.Answer.{unless, done}
 use Rattle.table.specs.State.{stage_of, is_nothing, reordered_state}
@@ -41,15 +40,11 @@ log_answer s rows counts care =
     (unless (not (is_nothing (stage_of s))) NoTable
     (unless (leb (2 ^ s.n) (length counts)) ShortBuffer
     (unless (all (λ row. ltb row (2 ^ s.n)) rows) NoRow
-    (unless (leb (records_of s counts + length rows) most_records) TooManyRecords (Done 0)))))
+    (unless (leb (records_of s counts + length rows) most_records) TooManyRecords (Ok 0)))))
 
 -- 'The stage becomes table'; the order is as it was
 unfoldable pub log_outcome : State → List ℕ → List ℕ → List ℕ → Outcome
-log_outcome s rows counts care =
-    record {
-      answer = log_answer s rows counts care;
-      state = cond (done (log_answer s rows counts care)) (reordered_state s s.order) s;
-    }
+log_outcome s rows counts care = outcome_of (log_answer s rows counts care) (reordered_state s s.order)
 
 unfoldable pub log_counts : State → List ℕ → List ℕ → List ℕ → List ℕ
 log_counts s rows counts care = cond (done (log_answer s rows counts care)) (over (seen rows counts) (2 ^ s.n) counts) counts

@@ -4,7 +4,7 @@
 use Rattle.std.specs.Prelude.{◌≡◌, Bool, true, ◌&&◌, ℕ, T}
 use mathlib.Core.List.{List, [], ◌∷◌, flatten, Permᴰ}
 use Rattle.table.specs.declared.State.{State}
-use Rattle.table.specs.Answer.{done}
+use Rattle.table.specs.Answer.{done, state_after}
 use Rattle.rowlog.specs.Log.{log_answer, log_outcome, log_counts, log_care}
 
 -- what a log finds, and what it leaves
@@ -21,7 +21,7 @@ accepted rows found = done (log_answer found.state rows found.counts found.care)
 abbrev pub logged : ℕ → List ℕ → Logged → Logged
 logged least rows found =
     record {
-      state = (log_outcome found.state rows found.counts found.care).state;
+      state = state_after found.state (log_outcome found.state rows found.counts found.care);
       counts = log_counts found.state rows found.counts found.care;
       care = log_care found.state rows least found.counts found.care;
     }

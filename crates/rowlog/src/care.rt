@@ -9,6 +9,7 @@ use crate::counts::lent_count;
 use table::PLANE;
 
 // Bit x of the stream of care: each output has 2ⁿ rows, and past the stream's end there is none.
+#[tactic(auto, unfolding(crate::specs::Inner::Care::care_bit))]
 fn care_bit(counts: &[u32], least: u32, n: usize, end: usize, x: usize) -> bool
     requires { n ≤ most_variables }
     ensures { result ≡ care_bit counts.now least n end x }
@@ -39,7 +40,8 @@ pub(crate) fn write_care(counts: &[u32], least: u32, n: usize, end: usize, care:
     requires { (n ≤ most_variables) × (plane_size ≤ length care.old) }
     ensures { care.new ≡ over (counted_byte counts.now least n end) plane_size care.old }
 {
-    for i in 0..PLANE {
-        care[i] = care_byte(counts, least, n, end, i);
+    let plane = &mut care[..PLANE];
+    for (i, byte) in plane.iter_mut().enumerate() {
+        *byte = care_byte(counts, least, n, end, i);
     }
 }

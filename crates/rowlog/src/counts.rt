@@ -6,8 +6,6 @@ ghost use Rattle.lists.specs.Written.{over};
 ghost use Rattle.diagram.specs.Networks.Bound.{most_variables};
 ghost use Rattle.rowlog.specs.Log.{most_records, seen};
 
-use block::numbers::lent_number;
-
 // How many records there may be; specs/Log.antt has the definition, `most_records`.
 const RECORDS: usize = 4294967295;
 
@@ -15,23 +13,15 @@ const RECORDS: usize = 4294967295;
 pub(crate) fn lent_count(counts: &[u32], i: usize) -> usize
     ensures { (result ≡ get_or counts.now i 0) × (result ≤ most_records) }
 {
-    if i < counts.len() {
-        counts[i] as usize
-    } else {
-        0
-    }
+    counts.get(i).copied().unwrap_or(0) as usize
 }
 
-// The sum of the first `end` counts.
-fn sum_of(counts: &[u32], end: usize) -> usize
-    requires { end ≤ 2 ^ most_variables }
-    ensures { result ≡ sum_below (λ i. get_or counts.now i 0) end }
+// The sum of counts, as few as the rows are.
+fn sum_of(counts: &[u32]) -> usize
+    requires { length counts.now ≤ 2 ^ most_variables }
+    ensures { result ≡ sum_below (λ i. get_or counts.now i 0) (length counts.now) }
 {
-    let mut sum: usize = 0;
-    for i in 0..end {
-        sum += lent_count(counts, i);
-    }
-    sum
+    counts.iter().map(|count| *count as usize).sum()
 }
 
 // Whether the first `end` counts and so many records more are not too many together.
@@ -39,22 +29,18 @@ pub(crate) fn has_room(counts: &[u32], end: usize, more: usize) -> bool
     requires { end ≤ 2 ^ most_variables }
     ensures { result ≡ leb (sum_below (λ i. get_or counts.now i 0) end + more) most_records }
 {
-    let sum = sum_of(counts, end);
-    if RECORDS < sum {
-        return false;
-    }
-    more <= RECORDS - sum
+    let sum = sum_of(&counts[..end.min(counts.len())]);
+    sum.saturating_add(more) <= RECORDS
 }
 
 // Counts each row of the list.
 pub(crate) fn count_rows(rows: &[u16], counts: &mut [u32])
-    requires t { T (all (λ row. ltb row (length counts.old)) rows.now) }
-    requires by_index { (j : ℕ) → j < length rows.now → seen rows.now counts.old (get_or rows.now j 0) ≤ most_records }
+    requires rows_within { T (all (λ row. ltb row (length counts.old)) rows.now) }
+    requires counts_fit { (j : ℕ) → j < length rows.now → seen rows.now counts.old (get_or rows.now j 0) ≤ most_records }
     ensures { counts.new
         ≡ over (seen rows.now counts.old) (length counts.old) counts.old }
 {
-    for j in 0..rows.len() {
-        let row = lent_number(rows, j);
-        counts[row] = counts[row] + 1;
+    for &row in rows {
+        counts[row as usize] += 1;
     }
 }

@@ -1,6 +1,7 @@
 -- Section 3 of document 01, 'Value bits of free rows never matter', of a sift, a pass and a report of all moves: two lents that agree on the
 -- care bits of the stream, and on its value bits where they are cared, have one outcome and leave the same.
 -- Assumes nothing.
+use Rattle.std.specs.Prelude.{Ok}
 use mathlib.Core.Path.{◌≡◌, refl, ap, ap₂, ◌∙◌}
 use mathlib.Core.Bool.{Bool, cond, not}
 use mathlib.Core.List.{List}
@@ -11,10 +12,10 @@ use Rattle.lists.specs.Written.{over}
 use Rattle.diagram.specs.Table.{Table, cost}
 use Rattle.diagram.specs.Orders.Sift.{Pass}
 use Rattle.diagram.proofs.Filling.FreeRows.{Alike, cost-alike, sift-alike, pass-alike, gains-alike}
-use Rattle.table.specs.declared.Answer.{Answer}
-use Rattle.table.specs.declared.Answer.TheVariants.{Done, NoSuch, ShortBuffer, NoTable}
+use Rattle.table.specs.Answer.{Answer}
+use Rattle.table.specs.declared.Refusal.TheVariants.{NoSuch, ShortBuffer, NoTable}
 use Rattle.table.specs.declared.State.{State}
-use Rattle.table.specs.Answer.{unless, done}
+use Rattle.table.specs.Answer.{unless, done, outcome_of}
 use Rattle.table.specs.State.{order_of, stage_of, is_nothing}
 use Rattle.fill.specs.Work.{zero_work}
 use Rattle.fill.specs.Calls.{held_table, enough}
@@ -48,13 +49,13 @@ module _ (s : State) (values care values' care' work : List ℕ) (alike : AlikeB
     unfolding sift_answer
     sift-answer =
         answers _ _
-        (ap (λ (c : ℕ). unless (ltb v s.n) NoSuch (Done c))
+        (ap (λ (c : ℕ). unless (ltb v s.n) NoSuch (Ok c))
         (ap (cost t) sifted-alike ∙ cost-alike t u same (sifted_order s v values' care')))
 
     pub sift-outcome : sift_outcome s v values care work ≡ sift_outcome s v values' care' work
     unfolding sift_outcome
     sift-outcome =
-        λ i. record { answer = sift-answer i; state = cond (done (sift-answer i)) (with_order s (sifted-alike i)) s }
+        λ i. outcome_of (sift-answer i) (with_order s (sifted-alike i))
 
     pub sift-work : sift_work s v values care work ≡ sift_work s v values' care' work
     unfolding sift_work
@@ -67,12 +68,12 @@ module _ (s : State) (values care values' care' work : List ℕ) (alike : AlikeB
 
     pass-answer : pass_answer s limit values care work ≡ pass_answer s limit values' care' work
     unfolding pass_answer
-    pass-answer = answers _ _ (ap (λ (p : Pass). Done p.tried) passed-alike)
+    pass-answer = answers _ _ (ap (λ (p : Pass). Ok p.tried) passed-alike)
 
     pub pass-outcome : pass_outcome s limit values care work ≡ pass_outcome s limit values' care' work
     unfolding pass_outcome
     pass-outcome =
-        λ i. record { answer = pass-answer i; state = cond (done (pass-answer i)) (with_order s (passed-alike i).order) s }
+        λ i. outcome_of (pass-answer i) (with_order s (passed-alike i).order)
 
     pub pass-work : pass_work s limit values care work ≡ pass_work s limit values' care' work
     unfolding pass_work

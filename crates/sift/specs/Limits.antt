@@ -3,11 +3,12 @@
 -- Assumes nothing.
 use Rattle.std.specs.Prelude.{List, ℕ, ◌≤◌}
 use Rattle.table.specs.declared.State.{State}
+use Rattle.table.specs.Answer.{state_after}
 use Rattle.sift.specs.Calls.{order_cost, pass_outcome}
 
 -- of any state and whatever is lent; where they are refused, both leave the order found
 unfoldable pub LargerPass : Type 0
 LargerPass =
     (s : State) (smaller larger : ℕ) (values care work : List ℕ) → smaller ≤ larger
-    → order_cost (pass_outcome s larger values care work).state values care
-    ≤ order_cost (pass_outcome s smaller values care work).state values care
+    → order_cost (state_after s (pass_outcome s larger values care work)) values care
+    ≤ order_cost (state_after s (pass_outcome s smaller values care work)) values care

@@ -1,11 +1,11 @@
 -- What a report of all moves answers and leaves (document 02, 2.8).
 -- Assumes nothing.
-use Rattle.std.specs.Prelude.{◌≡◌, cond, not, List, ℕ, ◌+◌, ◌*◌, ◌<◌, eqb, leb, ℤ, pos, neg_ℤ, ◌-ℤ◌, length, get_or, ◌≤ℤ◌}
+use Rattle.std.specs.Prelude.{◌≡◌, cond, not, List, ℕ, ◌+◌, ◌*◌, ◌<◌, eqb, leb, ℤ, pos, neg_ℤ, ◌-ℤ◌, length, get_or, ◌≤ℤ◌, Ok}
 use Rattle.lists.specs.Lists.{index}
 use Rattle.lists.specs.Written.{over}
 use Rattle.diagram.specs.Orders.Moves.{gain_at, Smallest, MovedLeast}
-use Rattle.table.specs.declared.Answer.{Answer}
-use Rattle.table.specs.declared.Answer.TheVariants.{Done, ShortBuffer, NoTable, ShortGains}
+use Rattle.table.specs.Answer.{Answer}
+use Rattle.table.specs.declared.Refusal.TheVariants.{ShortBuffer, NoTable, ShortGains}
 use Rattle.table.specs.declared.State.{State}
 use Rattle.table.specs.Answer.{value, unless, done}
 use Rattle.table.specs.State.{order_of, stage_of, is_nothing}
@@ -17,7 +17,7 @@ use Rattle.sift.specs.Calls.{sift_answer}
 unfoldable pub moves_answer : State → List ℤ → List ℕ → List ℕ → List ℕ → Answer
 moves_answer s gains values care work =
     unless (enough values care work) ShortBuffer
-    (unless (not (is_nothing (stage_of s))) NoTable (unless (leb (s.n * s.n) (length gains)) ShortGains (Done 0)))
+    (unless (not (is_nothing (stage_of s))) NoTable (unless (leb (s.n * s.n) (length gains)) ShortGains (Ok 0)))
 
 -- 'The report fills a lent list, n × n entries, entry n × input + place, the rest untouched'; as found after a refusal
 unfoldable pub moves_gains : State → List ℤ → List ℕ → List ℕ → List ℕ → List ℤ

@@ -36,17 +36,15 @@ pub(crate) fn fullest(
     sifted: [bool; VARIABLES],
     n: usize,
 ) -> usize
-    requires n_le_most_variables { n ≤ most_variables }
-    requires t { T (is_order n (take n order)) }
+    requires few { n ≤ most_variables }
+    requires order { T (is_order n (take n order)) }
     ensures { result ≡ most (nodes_at counts (take n order)) (unmarked n sifted) }
 {
     let mut lead = Lead {
         variable: 0,
         nodes: 0,
     };
-    let mut v = n;
-    while 0 < v {
-        v -= 1;
+    for v in (0..n).rev() {
         let level = level_of(order, n, v);
         let nodes = counts[level];
         let marked = sifted[v];

@@ -14,12 +14,10 @@ ghost use Rattle.sift.specs.Moves.{moves_answer, moves_gains, moves_work, Report
 
 use crate::counts::total_of;
 use crate::room::lent_enough;
-use crate::trials::count_moves;
+use crate::trials::{Counted, count_moves};
 use diagram::VARIABLES;
 use fill::COUNTS;
-use table::numbers::value_of;
-use table::valid::holds_table;
-use table::{Answer, State};
+use table::{Answer, Refusal, State};
 
 // The nodes under a move minus the nodes now.
 fn gain(moved: usize, present: usize) -> i32
@@ -43,58 +41,42 @@ fn write_gains(row: &mut [i32], n: usize, present: usize, counts: &[usize])
 }
 
 // Writes what v would bring at each level.
-fn report_variable(
-    state: State,
-    v: usize,
-    known: [usize; VARIABLES],
-    present: usize,
-    row: &mut [i32],
-    values: &[u8],
-    care: &[u8],
-    work: &mut [u8],
-)
-    requires t { T (enough values.now care.now work.old) }
-    requires t_2 { T (good_heading state.n state.m (order_of state)) }
-    requires v_lt_n { (v < state.n) × (state.n ≤ length row.old) }
-    requires known_value { known ≡ counts_under (held_table state values.now care.now) (order_of state) }
-    requires present_value { present ≡ cost (held_table state values.now care.now) (order_of state) }
+fn report_variable(table: &Counted, v: usize, present: usize, row: &mut [i32], work: &mut [u8])
+    requires enough { T (enough table.now.values.now table.now.care.now work.old) }
+    requires variable { (v < table.now.state.n) × (table.now.state.n ≤ length row.old) }
+    requires present { present ≡ cost (held_table table.now.state table.now.values.now table.now.care.now) (order_of table.now.state) }
     ensures row { row.new
-        ≡ over (gained (held_table state values.now care.now) (order_of state) v) state.n row.old }
+        ≡ over (gained (held_table table.now.state table.now.values.now table.now.care.now) (order_of table.now.state) v) table.now.state.n row.old }
     ensures work { work.new ≡ trials_zero work.old }
 {
     let mut counts = [0usize; COUNTS];
-    count_moves(state, v, known, values, care, &mut counts, work);
-    write_gains(row, state.n, present, &counts);
+    count_moves(table, v, &mut counts, work);
+    write_gains(row, table.state.n, present, &counts);
 }
 
 // Counts the present order, and writes what each variable would bring, in a part of the list of its own.
 fn report(state: State, gains: &mut [i32], values: &[u8], care: &[u8], work: &mut [u8])
-    requires t { T (enough values.now care.now work.old) }
-    requires t_2 { T (not (is_nothing (stage_of state))) }
-    requires n_in_bounds { state.n * state.n ≤ length gains.old }
+    requires enough { T (enough values.now care.now work.old) }
+    requires held { T (not (is_nothing (stage_of state))) }
+    requires room { state.n * state.n ≤ length gains.old }
     ensures gains { gains.new
         ≡ over (gain_at (held_table state values.now care.now) (order_of state)) (state.n * state.n)
         gains.old }
     ensures work { work.new ≡ zero_work work.old }
 {
-    let levels = fill::count_levels(state, values, care, work);
+    let levels = fill::count_levels(state, values, care, work).unwrap();
     let known = levels.counts;
-    let answer = levels.answer;
-    let present = value_of(answer);
+    let table = Counted {
+        state,
+        known,
+        values,
+        care,
+    };
     let n = state.n;
     for v in 0..n {
         let at = n * v;
         let end = at + n;
-        report_variable(
-            state,
-            v,
-            known,
-            present,
-            &mut gains[at..end],
-            values,
-            care,
-            work,
-        );
+        report_variable(&table, v, levels.cells, &mut gains[at..end], work);
     }
 }
 
@@ -110,15 +92,15 @@ pub fn moves(state: State, gains: &mut [i32], values: &[u8], care: &[u8], work: 
     ensures reported { done result ≡ true → Reported state values.now care.now work.old gains.new }
 {
     if !lent_enough(values.len(), care.len(), work.len()) {
-        return Answer::ShortBuffer;
+        return Err(Refusal::ShortBuffer);
     }
-    if !holds_table(state) {
-        return Answer::NoTable;
+    if !state.holds_table() {
+        return Err(Refusal::NoTable);
     }
     let n = state.n;
     if gains.len() < n * n {
-        return Answer::ShortGains;
+        return Err(Refusal::ShortGains);
     }
     report(state, gains, values, care, work);
-    Answer::Done(0)
+    Ok(0)
 }

@@ -39,9 +39,9 @@ pub(crate) fn moved_to(
     v: usize,
     p: usize,
 ) -> [usize; VARIABLES]
-    requires n_le_most_variables { n ≤ most_variables }
-    requires t { T (is_order n (take n order)) }
-    requires v_lt_n { (v < n) × (p < n) }
+    requires few { n ≤ most_variables }
+    requires order { T (is_order n (take n order)) }
+    requires levels { (v < n) × (p < n) }
     ensures { result ≡ moved v p (take n order) ++ drop n order }
 {
     let q = level_of(order, n, v);

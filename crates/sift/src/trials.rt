@@ -16,6 +16,17 @@ use fill::counts::put_counts;
 use table::order::level_of;
 use table::{Stage, State};
 
+// A table and an order of it, with the nodes of each level under that order.
+#[derive(Clone, Copy)]
+pub(crate) struct Counted<'v, 'c> {
+    pub state: State,
+    pub known: [usize; VARIABLES],
+    pub values: &'v [u8],
+    pub care: &'c [u8],
+    ghost heading: { T (good_heading state.n state.m (order_of state)) },
+    ghost counted: { known ≡ counts_under (held_table state values.now care.now) (order_of state) },
+}
+
 // The best level for a variable so far, the nodes with the variable there, and how many orders were tried to find it.
 #[derive(Clone, Copy)]
 pub(crate) struct Best {
@@ -79,50 +90,34 @@ fn try_level(best: Best, p: usize, nodes: usize, present: bool) -> Best
 }
 
 // Counts the nodes of each level with v at each level in turn, but where v stands: there they are known.
-pub(crate) fn count_moves(
-    state: State,
-    v: usize,
-    known: [usize; VARIABLES],
-    values: &[u8],
-    care: &[u8],
-    counts: &mut [usize],
-    work: &mut [u8],
-)
-    requires t { T (enough values.now care.now work.old) }
-    requires t_2 { T (good_heading state.n state.m (order_of state)) }
-    requires v_lt_n { (v < state.n) × (counts_size ≤ length counts.old) }
-    requires known_value { known ≡ counts_under (held_table state values.now care.now) (order_of state) }
-    ensures counts { MovedCounts (held_table state values.now care.now) v (order_of state) counts.new }
+pub(crate) fn count_moves(table: &Counted, v: usize, counts: &mut [usize], work: &mut [u8])
+    requires enough { T (enough table.now.values.now table.now.care.now work.old) }
+    requires variable { v < table.now.state.n }
+    requires room { counts_size ≤ length counts.old }
+    ensures counts { MovedCounts (held_table table.now.state table.now.values.now table.now.care.now) v (order_of table.now.state) counts.new }
     ensures work { work.new ≡ trials_zero work.old }
 {
+    let state = table.state;
     let n = state.n;
     let order = state.order;
     let q = level_of(order, n, v);
-    put_counts(counts, q, known);
+    put_counts(counts, q, table.known);
     let top = moved_to(order, n, v, 0);
     let current = reorder(state, top);
-    fill::try_levels(current, q, values, care, counts, work);
+    let _ = fill::try_levels(current, q, table.values, table.care, counts, work);
 }
 
 // Tries v at every level from the top down. Of those with the fewest nodes it takes the one where v stands, or else the topmost.
-fn best_level(
-    state: State,
-    v: usize,
-    known: [usize; VARIABLES],
-    values: &[u8],
-    care: &[u8],
-    counts: &mut [usize],
-    work: &mut [u8],
-) -> Best
-    requires t { T (enough values.now care.now work.old) }
-    requires t_2 { T (good_heading state.n state.m (order_of state)) }
-    requires v_lt_n { (v < state.n) × (counts_size ≤ length counts.old) }
-    requires known_value { known ≡ counts_under (held_table state values.now care.now) (order_of state) }
-    ensures best { result ≡ best_of (held_table state values.now care.now) v (order_of state) }
-    ensures counts { MovedCounts (held_table state values.now care.now) v (order_of state) counts.new }
+fn best_level(table: &Counted, v: usize, counts: &mut [usize], work: &mut [u8]) -> Best
+    requires enough { T (enough table.now.values.now table.now.care.now work.old) }
+    requires variable { v < table.now.state.n }
+    requires room { counts_size ≤ length counts.old }
+    ensures best { result ≡ best_of (held_table table.now.state table.now.values.now table.now.care.now) v (order_of table.now.state) }
+    ensures counts { MovedCounts (held_table table.now.state table.now.values.now table.now.care.now) v (order_of table.now.state) counts.new }
     ensures work { work.new ≡ trials_zero work.old }
 {
-    count_moves(state, v, known, values, care, counts, work);
+    count_moves(table, v, counts, work);
+    let state = table.state;
     let order = state.order;
     let mut best = Best {
         level: 0,
@@ -137,23 +132,14 @@ fn best_level(
 }
 
 // The best level for v, by the known counts of the state's order, and the counts with v there.
-pub(crate) fn sift_one(
-    state: State,
-    v: usize,
-    known: [usize; VARIABLES],
-    values: &[u8],
-    care: &[u8],
-    work: &mut [u8],
-) -> Sifted
-    requires t { T (enough values.now care.now work.old) }
-    requires t_2 { T (good_heading state.n state.m (order_of state)) }
-    requires v_lt_n { v < state.n }
-    requires known_value { known ≡ counts_under (held_table state values.now care.now) (order_of state) }
-    ensures sifted { result ≡ sifted_of (held_table state values.now care.now) v (order_of state) }
+pub(crate) fn sift_one(table: &Counted, v: usize, work: &mut [u8]) -> Sifted
+    requires enough { T (enough table.now.values.now table.now.care.now work.old) }
+    requires variable { v < table.now.state.n }
+    ensures sifted { result ≡ sifted_of (held_table table.now.state table.now.values.now table.now.care.now) v (order_of table.now.state) }
     ensures work { work.new ≡ trials_zero work.old }
 {
     let mut counts = [0usize; COUNTS];
-    let best = best_level(state, v, known, values, care, &mut counts, work);
+    let best = best_level(table, v, &mut counts, work);
     let left = counts_of(&counts, best.level);
     Sifted { best, counts: left }
 }

@@ -1,5 +1,6 @@
 -- Every claim that holds is shown of the calls; so are the starred ones.
 -- Assumes nothing.
+use Rattle.std.specs.Prelude.{Ok, Err}
 use mathlib.Core.Path.{◌≡◌, sym, ap, ap₂, ◌∙◌, subst}
 use mathlib.Core.Bool.{Bool, true, false, cond, beq, ◌&&◌}
 use mathlib.Core.List.{List, [], map, ◌++◌}
@@ -20,7 +21,7 @@ use Rattle.diagram.specs.Starred.{Claim, builds, costs, sifts, fits, holds, fill
 use Rattle.diagram.proofs.Networks.Same.{nodes-equality}
 use Rattle.diagram.proofs.Starred.{starred-hold}
 use Rattle.diagram.proofs.Networks.Count.{cost-nodes}
-use Rattle.table.specs.declared.Answer.TheVariants.{Done, TooSmall}
+use Rattle.table.specs.declared.Refusal.TheVariants.{TooSmall}
 use Rattle.lent.specs.Lent.{numbers_of, roots_size}
 use Rattle.network.specs.Build.{capacity, held_network, wanted}
 use Rattle.starred.specs.Shown.{Shown}
@@ -50,7 +51,7 @@ module _ (t : Table) (order : List ℕ) (rows : List (List Bool)) (nodes : List 
       let k : wanted s values care ≡ length nodes = held-cost h ∙ cost-nodes t order ∙ ap length q in
       let fit : leb (wanted s values care) (capacity cells) ≡ true = rw k (le-leb (length nodes) (capacity cells) room) in
       record {
-        answer = built-answer s values care work roots cells long h.staged true fit ∙ ap Done k;
+        answer = built-answer s values care work roots cells long h.staged true fit ∙ ap Ok k;
         written =
             built-cells s values care work roots cells long h.staged fit
             ∙ ap₂ (λ (xs : List Node) (w : ℕ). numbers_of xs ++ drop (3 * w) cells) ns k;
@@ -65,7 +66,7 @@ module _ (t : Table) (order : List ℕ) (rows : List (List Bool)) (nodes : List 
 shown-costs : (t : Table) (order : List ℕ) (c : ℕ) → T (holds (costs t order c)) → Shown (costs t order c)
 unfolding holds Shown
 shown-costs t order c x s values care work h long =
-    counted s values care work long h.staged ∙ ap Done (held-cost h ∙ eqb→eq (cost t order) c x)
+    counted s values care work long h.staged ∙ ap Ok (held-cost h ∙ eqb→eq (cost t order) c x)
 
 shown-sifts : (t : Table) (order : List ℕ) (v : ℕ) (left : List ℕ) (c : ℕ) → T (holds (sifts t order v left c))
     → Shown (sifts t order v left c)
@@ -77,7 +78,7 @@ shown-sifts t order v left c x s values care work h long below =
     record {
       answer =
           sifted-answer s values care work long h.staged v p
-          ∙ ap Done (held-sift-cost h v ∙ eqb→eq (cost t (sift t v order)) c (and_r a b x));
+          ∙ ap Ok (held-sift-cost h v ∙ eqb→eq (cost t (sift t v order)) c (and_r a b x));
       order =
           sifted-order s values care work long h.staged v p ∙ held-sift h v
           ∙ numbers-equality.sound (sift t v order) left (and_l a b x);
@@ -88,7 +89,7 @@ unfolding holds Shown wanted
 shown-fits t order b fit x s values care work roots cells h long size =
     built-answer s values care work roots cells long h.staged fit
     (ap₂ leb (held-cost h) size ∙ beq→eq (leb (cost t order) b) fit x)
-    ∙ ap (λ (w : ℕ). cond fit (Done w) (TooSmall w)) (held-cost h)
+    ∙ ap (λ (w : ℕ). cond fit (Ok w) (Err (TooSmall w))) (held-cost h)
 
 -- every claim that holds is shown
 pub shown : (c : Claim) → T (holds c) → Shown c

@@ -8,7 +8,7 @@ use native.Mathlib.Numerals.{add-one}
 use native.Mathlib.Omega.{arith}
 use borrow.Author.Tests.{eqb-true}
 use lib.Dec.{eqb}
-use lib.ListN.{length, get_or, set, length-append}
+use lib.ListN.{length, get_or, set, length-append, length-set}
 use lib.Seq.{get_or-set_same, get_or-set_other}
 use Rattle.lists.specs.Lists.{up_to}
 use Rattle.lists.proofs.Bools.{split}
@@ -16,11 +16,11 @@ use Rattle.lists.proofs.Numbers.Compared.{differ}
 use Rattle.lists.proofs.Numbers.UpTo.{map-up_to-more}
 use Rattle.diagram.specs.Filling.Fill.{Link}
 use Rattle.diagram.specs.Networks.Diagram.{Node}
+use Rattle.diagram.specs.Networks.Bound.{most_variables}
 use Rattle.diagram.specs.Exchanging.Exchange.{Pair, entries_from, links_from, half_pairs, level_pairs, level_links, exchanged_trace}
 use Rattle.diagram.proofs.Exchanging.PairBounds.{level-room, links_from-length}
 use Rattle.fill.specs.Work.{links_at, all_links}
-use Rattle.swapping.specs.Inner.Exchange.{pairs_in, put_links, Entered}
-use Rattle.swapping.proofs.SeenPairs.{pairs-length}
+use Rattle.swapping.specs.Inner.Exchange.{put_links}
 use Rattle.swapping.proofs.LevelLinks.{put-append}
 
 all_append : (kss lss : List (List Link)) → all_links (kss ++ lss) ≡ all_links kss ++ all_links lss
@@ -86,58 +86,52 @@ module _ (node : ℕ → Node) (p : ℕ) (fs : List Pair) where
   unfolding level_links
   links-at-level q = refl
 
-  -- the levels before level q are linked, from byte at₀ on; seen has the entries of level q
+  -- the levels before level q are linked, from byte at₀ on; below are the entries of level q
   module _ (work₀ : List ℕ) (at₀ : ℕ) where
-    pub record Linking (q len : ℕ) (seen work entries : List ℕ) (at : ℕ) : Type 0 where
-      pub fits : len ≤ length seen
-      pub shown : pairs_in len seen ≡ level_pairs node p fs q
+    pub record Linking (q : ℕ) (below : List Pair) (work entries : List ℕ) (at : ℕ) : Type 0 where
+      pub shown : below ≡ level_pairs node p fs q
       pub put : work ≡ put_links work₀ at₀ (links_above q)
       pub there : at ≡ at₀ + 2 * length (links_above q)
+      pub long : length entries ≡ most_variables
       pub sizes : (j : ℕ) → j < q → get_or entries j 0 ≡ length (level_pairs node p fs j)
 
     -- the outputs alone
-    pub linking-top : (len : ℕ) (seen entries : List ℕ) → len ≤ length seen → pairs_in len seen ≡ entries_from [] fs
-        → Linking 0 len seen work₀ entries at₀
-    linking-top len seen entries h es =
+    pub linking-top : (below : List Pair) (entries : List ℕ) → length entries ≡ most_variables → below ≡ entries_from [] fs
+        → Linking 0 below work₀ entries at₀
+    linking-top below entries l e =
         record {
-          fits = h;
-          shown = es ∙ sym pairs_first;
+          shown = e ∙ sym pairs_first;
           put = refl;
           there = omega arith;
+          long = l;
           sizes = λ j k. absurd (omega arith);
         }
 
-    module _ (q len : ℕ) (seen work entries : List ℕ) (at : ℕ) (L : Linking q len seen work entries at) where
-      linking-len : len ≡ length (level_pairs node p fs q)
-      linking-len = sym (pairs-length seen len L.fits) ∙ ap length L.shown
-
+    module _ (q : ℕ) (below : List Pair) (work entries : List ℕ) (at : ℕ) (L : Linking q below work entries at) where
       -- the level's links end where those of all levels end, or before
-      pub linking-room : (n : ℕ) → q < n → at + 4 * len ≤ at₀ + 2 * length (links_above n)
-      linking-room n h = omega (arith, L.there, above-room q n h, linking-len)
+      pub linking-room : (n : ℕ) → q < n → at + 4 * length below ≤ at₀ + 2 * length (links_above n)
+      linking-room n h = omega (arith, L.there, above-room q n h, ap length L.shown)
 
-      pub linking-next : (len' : ℕ) (seen' work' : List ℕ) → q < length entries → len' ≤ length seen'
-          → pairs_in len' seen' ≡ entries_from [] (half_pairs node p q (pairs_in len seen))
-          → work' ≡ put_links work at (links_from [] (half_pairs node p q (pairs_in len seen)))
-          → Linking (q + 1) len' seen' work' (set entries q len) (at + 4 * len)
-      linking-next len' seen' work' he h es ew =
-          let halves : half_pairs node p q (pairs_in len seen) ≡ half_pairs node p q (level_pairs node p fs q) = ap (half_pairs node p q) L.shown in
-          let ls : links_from [] (half_pairs node p q (pairs_in len seen)) ≡ level_links node p fs q =
+      pub linking-next : (below' : List Pair) (work' : List ℕ) → q < length entries
+          → below' ≡ entries_from [] (half_pairs node p q below)
+          → work' ≡ put_links work at (links_from [] (half_pairs node p q below))
+          → Linking (q + 1) below' work' (set entries q (length below)) (at + 4 * length below)
+      linking-next below' work' he es ew =
+          let halves = ap (half_pairs node p q) L.shown in
+          let ls : links_from [] (half_pairs node p q below) ≡ level_links node p fs q =
           ap (links_from []) halves ∙ sym (links-at-level q) in
           record {
-            fits = h;
             shown = es ∙ ap (entries_from []) halves ∙ sym (pairs_next q) ∙ ap (level_pairs node p fs) (sym (add-one q));
             put =
                 ew ∙ ap₂ (λ (w : List ℕ) (l : List Link). put_links w at l) L.put ls
                 ∙ ap (λ (i : ℕ). put_links (put_links work₀ at₀ (links_above q)) i (level_links node p fs q)) L.there
                 ∙ sym (put-append work₀ at₀ (links_above q) (level_links node p fs q)) ∙ ap (put_links work₀ at₀) (sym (above_more q));
-            there = omega (arith, L.there, above-length q, linking-len);
-            sizes = set_more (λ j. length (level_pairs node p fs j)) entries q len he L.sizes linking-len;
+            there = omega (arith, L.there, above-length q, ap length L.shown);
+            long = length-set entries q (length below) ∙ L.long;
+            sizes = set_more (λ j. length (level_pairs node p fs j)) entries q (length below) he L.sizes (ap length L.shown);
           }
 
       -- at the end
-      pub linked-entries : (n : ℕ) → q ≡ n → Entered node p n fs entries
-      linked-entries n e = λ j h. L.sizes j (omega (arith, e))
-
       pub linked-work : (n : ℕ) → q ≡ n → (w : List ℕ) → work₀ ≡ put_links w links_at (links_from [] fs) → at₀ ≡ links_at + 2 * length fs
           → work ≡ put_links w links_at (all_links (exchanged_trace node p n fs))
       linked-work n e w ew ea =

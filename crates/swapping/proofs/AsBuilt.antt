@@ -2,6 +2,7 @@
 -- building leave: the state, the roots, the cells and the work buffer, bit for bit. It holds of any such network, and so of one that a
 -- build left.
 -- Assumes nothing.
+use Rattle.std.specs.Prelude.{Ok}
 use mathlib.Core.Path.{◌≡◌, sym, ap, ap₂, ◌∙◌}
 use mathlib.Core.Bool.{true, not}
 use mathlib.Core.List.{List, ◌++◌}
@@ -15,10 +16,9 @@ use Rattle.diagram.specs.Networks.Diagram.{Diagram}
 use Rattle.diagram.specs.Table.{Table, FullyCared, network_of, cost}
 use Rattle.diagram.specs.Canonical.Computed.{computed_table}
 use Rattle.diagram.proofs.Networks.SameTable.{exchanged-cared}
-use Rattle.table.specs.declared.Answer.TheVariants.{Done, TooSmall}
-use Rattle.table.specs.declared.Outcome.{Outcome}
+use Rattle.table.specs.declared.Refusal.TheVariants.{TooSmall}
 use Rattle.table.specs.declared.State.{State}
-use Rattle.table.specs.Answer.{unless, done}
+use Rattle.table.specs.Answer.{unless, done, state_after}
 use Rattle.table.specs.State.{order_of, stage_of, is_nothing, exchanged, reordered_state}
 use Rattle.table.specs.Calls.{plane_size}
 use Rattle.table.proofs.Held.{stage-good, ordered}
@@ -35,7 +35,7 @@ use Rattle.network.proofs.Building.LentNetwork.{lent-held}
 use Rattle.network.proofs.Building.Outcomes.{succeeded, done-outcome, done-roots, done-cells}
 use Rattle.network.proofs.Building.BuiltRows.{built_cells, built_roots, network-stage, good-built, cells-built, roots-built}
 use Rattle.network.proofs.Building.BuiltCanonical.{canonical-built}
-use Rattle.swapping.proofs.Checks.{Passed, passed, swapped-state}
+use Rattle.swapping.proofs.Checks.{Passed, passed, swapped-done}
 use Rattle.swapping.proofs.Kept.{count-nodes}
 use Rattle.swapping.proofs.Twice.{heading-left}
 
@@ -66,14 +66,14 @@ module _ (s : State) (p : ℕ) (values care work roots cells : List ℕ) (P : Pa
   unfolding wanted
   room_after = le-leb (cost t (exchanged_order s p)) (capacity cells) room
 
-  swaps : swap_cells_answer s p work roots cells ≡ Done 0
+  swaps : swap_cells_answer s p work roots cells ≡ Ok 0
   unfolding swap_cells_answer
   swaps =
       let k = swapped_count s p roots cells in
       let b : leb k (capacity cells) ≡ true = ap (λ (x : ℕ). leb x (capacity cells)) same_count ∙ room_after in
-      P.next (unless (leb k (capacity cells)) (TooSmall k) (Done 0)) ∙ rw b
+      P.next (unless (leb k (capacity cells)) (TooSmall k) (Ok 0)) ∙ rw b
 
-  builds : build_answer after values care work roots cells ≡ Done (wanted after values care)
+  builds : build_answer after values care work roots cells ≡ Ok (wanted after values care)
   unfolding build_answer
   builds =
       let v : leb plane_size (length values) ≡ true = le-leb plane_size (length values) hv in
@@ -87,12 +87,12 @@ module _ (s : State) (p : ℕ) (values care work roots cells : List ℕ) (P : Pa
   agree-held : Agree s p values care work roots cells
   unfolding build_outcome swap_cells_outcome build_roots swap_cells_roots build_cells swap_cells_cells build_work swap_cells_work
   agree-held =
-      let a = swapped-state s p work roots cells P in
+      let a = swapped-done s p work roots cells P in
       let d : done (swap_cells_answer s p work roots cells) ≡ true = ap done swaps in
       let b : done (build_answer after values care work roots cells) ≡ true = ap done builds in
       record {
         answer = swaps;
-        same-state = rw (a, d, b) (ap (network_state after) same_count);
+        same-state = rw (a, swaps, builds) (ap (network_state after) same_count);
         same-roots = rw (a, d, b) (ap (λ (E : Diagram). over (λ j. get_or E.roots j 0) roots_size roots) same-network);
         same-cells =
             rw (a, d, b) (ap₂ (λ (E : Diagram) (k : ℕ). numbers_of E.nodes ++ drop (3 * k) cells) same-network same_count);
@@ -119,7 +119,7 @@ as-built s p values care work₀ roots cells work d full room place long =
     )
     tt) in
     rw (
-      ← ap (λ (o : Outcome). o.state) (done-outcome s values care work₀ roots cells B.answer),
+      ← ap (state_after s) (done-outcome s values care work₀ roots cells B.answer),
       ← done-roots s values care work₀ roots cells B.answer,
       ← done-cells s values care work₀ roots cells B.answer,
     )

@@ -1,27 +1,28 @@
 -- The ways a swap in the cells ends once the checks are passed, 23 and the network; demands 2 and 3; and a refusal before.
 -- Assumes nothing.
+use Rattle.std.specs.Prelude.{Ok, Err}
 use mathlib.Core.Path.{◌≡◌, refl, sym, ap, ◌∙◌, subst, subst₂}
-use mathlib.Core.Bool.{true, false}
+use mathlib.Core.Bool.{true, false, cond}
 use mathlib.Core.List.{List, ◌++◌}
 use Prim.Native.Nat.{ℕ, ◌*◌, ◌≤◌}
 use native.Mathlib.Omega.{arith}
-use borrow.Author.Tests.{le-leb, eq-eqb, ne_eqb}
+use borrow.Author.Tests.{le-leb, eq-eqb, ne_eqb, eqb-true, eqb-false}
 use lib.Dec.{leb, leb→le, eqb}
 use lib.ListN.{length, get_or, drop}
 use Rattle.lists.specs.Written.{over}
 use Rattle.lists.proofs.Bools.{split, to-T, absurd-T}
 use Rattle.diagram.specs.Table.{Table}
 use Rattle.diagram.specs.Networks.Bound.{most_variables, most_outputs}
-use Rattle.table.specs.declared.Answer.{Answer}
-use Rattle.table.specs.declared.Answer.TheVariants.{Done, TooSmall}
-use Rattle.table.specs.declared.Outcome.{Outcome}
+use Rattle.table.specs.Answer.{Answer, Outcome}
+use Rattle.table.specs.declared.Refusal.{Refusal}
+use Rattle.table.specs.declared.Refusal.TheVariants.{TooSmall}
 use Rattle.table.specs.declared.State.{State}
-use Rattle.table.specs.Answer.{unless, done, number, value}
+use Rattle.table.specs.Answer.{unless, done, number, value, refusal_number}
 use Rattle.table.specs.State.{exchanged, reordered_state}
 use Rattle.fill.specs.Work.{work_size, links_at, all_links, zero_work, cleared_work}
-use Rattle.fill.specs.Counts.{links_fit, linked_levels}
+use Rattle.fill.specs.Counts.{links_fit, counted_links}
 use Rattle.fill.proofs.Counting.LinkPairs.{Links}
-use Rattle.fill.proofs.Counting.LinkedLevels.{linked-fit, linked-at, linked-total}
+use Rattle.fill.proofs.Counting.LinkedLevels.{linked-fit, linked-at, linked-ok, linked-total}
 use Rattle.lent.specs.Lent.{numbers_of, roots_size}
 use Rattle.network.specs.Build.{capacity, network_state, clears}
 use Rattle.network.specs.Reading.{read_links_answer, read_links_roots, read_links_cells, read_links_work}
@@ -36,15 +37,12 @@ use Rattle.swapping.proofs.Checks.{Passed, refused, checks-clear, checks-long}
 use Rattle.swapping.proofs.HeldLinks.{root_pairs, few, few', held-sized, held-end, held-counts}
 use Rattle.swapping.proofs.HeldLinks.{held-there, held-long, held-past}
 
-abbrev outcome : Answer → State → Outcome
-outcome x s = record { answer = x; state = s }
-
 module _ (s : State) (p : ℕ) (work roots cells : List ℕ) where
   abbrev answered : Answer
   answered = swap_cells_answer s p work roots cells
 
   abbrev checked : Answer
-  checked = swap_checks s p work roots cells (Done 0)
+  checked = swap_checks s p work roots cells (Ok 0)
 
   abbrev count : ℕ
   count = swapped_count s p roots cells
@@ -61,11 +59,9 @@ module _ (s : State) (p : ℕ) (work roots cells : List ℕ) where
       × (w ≡ swap_cells_work s p work roots cells)))
 
   -- a refusal leaves all but the work buffer
-  refusal : (x : Answer) → answered ≡ x → done x ≡ false → (w : List ℕ) → w ≡ swap_cells_work s p work roots cells → Ended (outcome x s) w roots cells
+  refusal : (x : Refusal) → answered ≡ Err x → (w : List ℕ) → w ≡ swap_cells_work s p work roots cells → Ended (Err x) w roots cells
   unfolding swap_cells_outcome swap_cells_roots swap_cells_cells
-  refusal x e d w ew =
-      let f : done answered ≡ false = ap done e ∙ d in
-      (rw f (ap (λ (a : Answer). outcome a s) (sym e)), (rw f, (rw f, ew)))
+  refusal x e w ew = (rw e, (rw e, (rw e, ew)))
 
   work-kept : (x : Answer) → answered ≡ x → clears_swap x ≡ false → work ≡ swap_cells_work s p work roots cells
   unfolding swap_cells_work
@@ -79,24 +75,30 @@ module _ (s : State) (p : ℕ) (work roots cells : List ℕ) where
   module _ (d : done checked ≡ false) where
     same-refusal : answered ≡ checked
     unfolding swap_cells_answer
-    same-refusal = refused s p work roots cells (unless (leb count (capacity cells)) (TooSmall count) (Done 0)) d
+    same-refusal = refused s p work roots cells (unless (leb count (capacity cells)) (TooSmall count) (Ok 0)) d
 
-    module _ (x : Answer) (e : x ≡ checked) where
-      same : answered ≡ x
+    module _ (x : Refusal) (e : Err x ≡ checked) where
+      same : answered ≡ Err x
       same = same-refusal ∙ sym e
 
-      pub kept_case : (number x ≡ 32 → ⊥) → Ended (outcome x s) work roots cells
-      kept_case n =
-          refusal x same (ap done e ∙ d) work
-          (work-kept x same
-          (ap clears_swap e ∙ checks-clear s p work roots cells d ∙ ap (λ (y : Answer). eqb (number y) 32) (sym e) ∙ ne_eqb (number x) 32 n))
+      clear : clears_swap (Err x) ≡ eqb (refusal_number x) 32
+      clear = ap clears_swap e ∙ checks-clear s p work roots cells d ∙ ap (λ (y : Answer). eqb (number y) 32) (sym e)
 
-      pub cleared-case : number x ≡ 32 → (w : List ℕ) → w ≡ cleared_work work → Ended (outcome x s) w roots cells
+      kept_case : (refusal_number x ≡ 32 → ⊥) → Ended (Err x) work roots cells
+      kept_case n = refusal x same work (work-kept (Err x) same (clear ∙ ne_eqb (refusal_number x) 32 n))
+
+      cleared-case : refusal_number x ≡ 32 → (w : List ℕ) → w ≡ cleared_work work → Ended (Err x) w roots cells
       cleared-case n w ew =
-          refusal x same (ap done e ∙ d) w
+          refusal x same w
           (ew ∙ clear_zero work work (checks-long s p work roots cells (sym (ap number e) ∙ n)) refl
-          ∙ work-cleared x same
-          (ap clears_swap e ∙ checks-clear s p work roots cells d ∙ ap (λ (y : Answer). eqb (number y) 32) (sym e) ∙ eq-eqb (number x) 32 n))
+          ∙ work-cleared (Err x) same (clear ∙ eq-eqb (refusal_number x) 32 n))
+
+      -- the work buffer is cleared after 32 alone
+      pub refused-case : (w : List ℕ) → w ≡ cond (eqb (refusal_number x) 32) (cleared_work work) work → Ended (Err x) w roots cells
+      refused-case w ew =
+          split (eqb (refusal_number x) 32) (λ t. cleared-case (eqb-true (refusal_number x) 32 t) w (ew ∙ rw t))
+          (λ t. let k : w ≡ work = ew ∙ rw t in
+          subst (λ (v : List ℕ). Ended (Err x) v roots cells) (sym k) (kept_case (eqb-false (refusal_number x) 32 t)))
 
   module _ (P : Passed s p work roots cells) where
     abbrev t : Table
@@ -105,24 +107,22 @@ module _ (s : State) (p : ℕ) (work roots cells : List ℕ) where
     abbrev other : List ℕ
     other = exchanged_order s p
 
-    board-answer : answered ≡ unless (leb count (capacity cells)) (TooSmall count) (Done 0)
+    board-answer : answered ≡ unless (leb count (capacity cells)) (TooSmall count) (Ok 0)
     unfolding swap_cells_answer
-    board-answer = P.next (unless (leb count (capacity cells)) (TooSmall count) (Done 0))
+    board-answer = P.next (unless (leb count (capacity cells)) (TooSmall count) (Ok 0))
 
-    enough : count ≤ capacity cells → answered ≡ Done 0
+    enough : count ≤ capacity cells → answered ≡ Ok 0
     enough h = board-answer ∙ (let f = le-leb count (capacity cells) h in rw f)
 
     -- what a success leaves
     done-case : count ≤ capacity cells → (w r c : List ℕ) → w ≡ zero_work work
         → r ≡ over (λ j. get_or (swapped_network s p roots cells).roots j 0) roots_size roots
-        → c ≡ numbers_of (swapped_network s p roots cells).nodes ++ drop (3 * count) cells → Ended (outcome (Done 0) after) w r c
+        → c ≡ numbers_of (swapped_network s p roots cells).nodes ++ drop (3 * count) cells
+        → Ended (Ok (record { value = 0; state = after })) w r c
     unfolding swap_cells_outcome swap_cells_roots swap_cells_cells
     done-case h w r c ew er ec =
         let e = enough h in
-        let f : done answered ≡ true = ap done e in (
-          rw f (ap (λ (a : Answer). outcome a after) (sym e)),
-          (rw f er, (rw f ec, ew ∙ work-cleared (Done 0) e refl)),
-        )
+        (rw e, (rw e er, (rw e ec, ew ∙ work-cleared (Ok 0) e refl)))
 
     -- the links in the work buffer w, and the levels' numbers of entries
     module _ (entries w : List ℕ) (E : Entered (lent_at cells) p s.n (root_pairs s p work roots cells P) entries)
@@ -147,28 +147,28 @@ module _ (s : State) (p : ℕ) (work roots cells : List ℕ) where
       fit = linked-fit s.n s.m entries w en em long (held-end s p work roots cells P entries E)
 
       abbrev cs : List ℕ
-      cs = (linked_levels s.n s.m entries w).counts
+      cs = (counted_links s.n s.m entries w).counts
 
       sized : Sized s.m entries cs 0 (lss t other)
       sized =
           held-sized s p work roots cells P entries E cs
           (λ j h. linked-at s.n s.m entries w fit j h ∙ held-counts s p work roots cells P entries E w there j h)
 
-      counted : (linked_levels s.n s.m entries w).answer ≡ Done count
+      counted : (counted_links s.n s.m entries w).cells ≡ count
       unfolding swapped_count
-      counted = linked-total s.n s.m entries w fit ∙ ap Done (read-total t other en em entries cs sized)
+      counted = linked-total s.n s.m entries w fit ∙ read-total t other en em entries cs sized
 
       abbrev read : Answer
       read = read_links_answer s.n s.m entries w roots cells
 
-      read_answer : read ≡ unless (leb count (capacity cells)) (TooSmall count) (Done count)
+      read_answer : read ≡ unless (leb count (capacity cells)) (TooSmall count) (Ok count)
       unfolding read_links_answer
-      read_answer = rw (le-leb roots_size (length roots) P.tested.long, counted)
+      read_answer = rw (le-leb roots_size (length roots) P.tested.long, linked-ok s.n s.m entries w fit, counted)
 
-      read-enough : leb count (capacity cells) ≡ true → read ≡ Done count
+      read-enough : leb count (capacity cells) ≡ true → read ≡ Ok count
       read-enough q = read_answer ∙ rw q
 
-      read_small : leb count (capacity cells) ≡ false → read ≡ TooSmall count
+      read_small : leb count (capacity cells) ≡ false → read ≡ Err (TooSmall count)
       read_small q = read_answer ∙ rw q
 
       -- what it leaves: x is its answer
@@ -178,29 +178,29 @@ module _ (s : State) (p : ℕ) (work roots cells : List ℕ) where
         unfolding read_links_work
         left-zero e = let f : clears read ≡ true = sym (ap clears ex) ∙ e in yw ∙ rw f (zero_same w work past)
 
-        pub small-case : done x ≡ false → Ended (outcome x s) w' r' c'
+        pub small-case : (y : Refusal) → x ≡ Err y → Ended (Err y) w' r' c'
         unfolding read_links_roots read_links_cells
-        small-case d =
-            let f : done read ≡ false = sym (ap done ex) ∙ d in
+        small-case y d =
+            let z : read ≡ Err y = sym ex ∙ d in
             split (leb count (capacity cells))
-            (λ q. absurd-T {b = true} tt (sym (ap done (read-enough q)) ∙ f))
-            (λ q. let e : x ≡ TooSmall count = ex ∙ read_small q in
-            let a : answered ≡ x = board-answer ∙ rw q (sym e) in
-            let er : r' ≡ roots = yr ∙ rw f in
-            let ec : c' ≡ cells = yc ∙ rw f in
-            subst₂ (λ (r c : List ℕ). Ended (outcome x s) w' r c) (sym er) (sym ec)
-            (refusal x a d w' (left-zero (ap clears e) ∙ work-cleared x a (ap clears_swap e))))
+            (λ q. absurd-T {b = true} tt (sym (ap done (read-enough q)) ∙ ap done z))
+            (λ q. let e : Err y ≡ Err (TooSmall count) = sym z ∙ read_small q in
+            let a : answered ≡ Err y = board-answer ∙ rw q (sym e) in
+            let er : r' ≡ roots = yr ∙ rw z in
+            let ec : c' ≡ cells = yc ∙ rw z in
+            subst₂ (λ (r c : List ℕ). Ended (Err y) w' r c) (sym er) (sym ec)
+            (refusal y a w' (left-zero (ap clears (d ∙ e)) ∙ work-cleared (Err y) a (ap clears_swap e))))
 
-        pub laid-case : (total : ℕ) → x ≡ Done total → (y : State) → y ≡ network_state (reordered_state s (exchanged p s.order)) total
-            → Ended (outcome (Done 0) y) w' r' c'
+        pub laid-case : (total : ℕ) → x ≡ Ok total → (y : State) → y ≡ network_state (reordered_state s (exchanged p s.order)) total
+            → Ended (Ok (record { value = 0; state = y })) w' r' c'
         unfolding read_links_roots read_links_cells swapped_count swapped_network
         laid-case total et y ey =
             let f : done read ≡ true = sym (ap done ex) ∙ ap done et in
-            let z : read ≡ Done total = sym ex ∙ et in
+            let z : read ≡ Ok total = sym ex ∙ et in
             split (leb count (capacity cells))
             (λ q. let h : count ≤ capacity cells = leb→le count (capacity cells) (to-T q) in
             let k : total ≡ count = sym (ap value z) ∙ ap value (read-enough q) in
-            subst (λ (v : State). Ended (outcome (Done 0) v) w' r' c')
+            subst (λ (v : State). Ended (Ok (record { value = 0; state = v })) w' r' c')
             (sym (ey ∙ ap (network_state (reordered_state s (exchanged p s.order))) k))
             (done-case h w' r' c' (left-zero (ap clears et))
             (yr ∙ rw f (read-roots t other en em entries cs sized w work cells there long past roots))

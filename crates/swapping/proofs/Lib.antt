@@ -5,9 +5,7 @@ pub mod Checks
 pub mod HeldLinks
 pub mod Kept
 pub mod LevelLinks
-pub mod PairNumbers
 pub mod PlacedPairs
 pub mod PutLinks
-pub mod RootLinks
 pub mod SeenPairs
 pub mod Twice

@@ -1,5 +1,6 @@
 -- Swapping twice at the same place gives the order, the count, the counted cells and the roots back, whatever work buffer is lent.
 -- Assumes nothing.
+use Rattle.std.specs.Prelude.{Ok}
 use mathlib.Core.Path.{◌≡◌, refl, sym, ap, ap₂, ◌∙◌, subst}
 use mathlib.Core.Bool.{true}
 use mathlib.Core.List.{List, [], ◌∷◌, ◌++◌}
@@ -23,12 +24,13 @@ use Rattle.diagram.proofs.Demands.{filled-length, right}
 use Rattle.diagram.proofs.Canonical.NetworkIff.{network-canonical}
 use Rattle.diagram.proofs.Networks.SameTable.{exchanged-back}
 use Rattle.diagram.proofs.Networks.Count.{cost-nodes}
-use Rattle.table.specs.declared.Answer.{Answer}
-use Rattle.table.specs.declared.Answer.TheVariants.{Done, TooSmall}
+use Rattle.table.specs.Answer.{Answer}
+use Rattle.table.specs.declared.Refusal.TheVariants.{TooSmall}
 use Rattle.table.specs.declared.State.{State}
 use Rattle.table.specs.declared.Stage.{Stage}
 use Rattle.table.specs.declared.Stage.TheVariants.{Nothing, Table as AtTable, Network}
-use Rattle.table.specs.Answer.{unless, done}
+use Rattle.table.specs.Answer.{unless, done, state_after}
+use Rattle.table.proofs.Outcomes.{outcome-state}
 use Rattle.table.specs.State.{good_heading, order_of, stage_of, is_network, exchanged, reordered_state}
 use Rattle.table.proofs.Held.{good-order, stage-bad, stage-good, few-inputs, few-outputs, some-outputs, ordered}
 use Rattle.fill.specs.Work.{work_size}
@@ -151,22 +153,21 @@ module _ (s : State) (p : ℕ) (work roots cells : List ℕ) (P : Passed s p wor
   unfolding swapped_count swapped_network
   count-back = cost-nodes (cell_table s' roots' cells') (exchanged_order s' p) ∙ ap (λ (F : Diagram). length F.nodes) back ∙ nodes-back
 
-  pub answer_back : swap_cells_answer s' p work₂ roots' cells' ≡ Done 0
+  pub answer_back : swap_cells_answer s' p work₂ roots' cells' ≡ Ok 0
   unfolding swap_cells_answer
   answer_back =
       let e : leb (swapped_count s' p roots' cells') (capacity cells') ≡ true =
       le-leb (swapped_count s' p roots' cells') (capacity cells')
       (omega (arith, count-back, P.tested.enough, ap (λ (k : ℕ). k / 3) same_length)) in
-      checks (unless (leb (swapped_count s' p roots' cells') (capacity cells')) (TooSmall (swapped_count s' p roots' cells')) (Done 0)) ∙ rw e
+      checks (unless (leb (swapped_count s' p roots' cells') (capacity cells')) (TooSmall (swapped_count s' p roots' cells')) (Ok 0)) ∙ rw e
 
-  pub state-back : swap_cells_outcome s' p work₂ roots' cells' ≡ record { answer = Done 0; state = s }
+  pub state-back : swap_cells_outcome s' p work₂ roots' cells' ≡ Ok (record { value = 0; state = s })
   unfolding swap_cells_outcome
   state-back =
-      let f : done (swap_cells_answer s' p work₂ roots' cells') ≡ true = ap done answer_back in
       let e : network_state (reordered_state s' (exchanged p s'.order)) (swapped_count s' p roots' cells') ≡ s =
       ap₂ (λ (o : List ℕ) (k : ℕ). record { n = s.n; m = s.m; order = o; count = k; stage = Network }) order-back count-back
       ∙ ap (λ (g : Stage). record { n = s.n; m = s.m; order = s.order; count = s.count; stage = g }) (sym (stage-network s P.network)) in
-      rw f (ap₂ (λ (a : Answer) (x : State). record { answer = a; state = x }) answer_back e)
+      rw answer_back (ap (λ (x : State). Ok (record { value = 0; state = x })) e)
 
   pub network-back : lent_diagram s.count s.m (swap_cells_cells s' p work₂ roots' cells') (swap_cells_roots s' p work₂ roots' cells') ≡ D
   unfolding swap_cells_cells swap_cells_roots
@@ -183,7 +184,7 @@ module _ (s : State) (p : ℕ) (work roots cells : List ℕ) (P : Passed s p wor
 module _ (s : State) (p : ℕ) (work roots cells : List ℕ) (d : done (swap_cells_answer s p work roots cells) ≡ true) (work₂ : List ℕ)
     (long : work_size ≤ length work₂) where
   abbrev first : State
-  first = (swap_cells_outcome s p work roots cells).state
+  first = state_after s (swap_cells_outcome s p work roots cells)
 
   abbrev roots₁ : List ℕ
   roots₁ = swap_cells_roots s p work roots cells
@@ -191,12 +192,19 @@ module _ (s : State) (p : ℕ) (work roots cells : List ℕ) (d : done (swap_cel
   abbrev cells₁ : List ℕ
   cells₁ = swap_cells_cells s p work roots cells
 
+  left-by : done (swap_cells_answer s p work roots cells) ≡ true
+      → state_after s (swap_cells_outcome s p work roots cells)
+      ≡ network_state (reordered_state s (exchanged p s.order)) (swapped_count s p roots cells)
+  unfolding swap_cells_outcome
+  left-by = outcome-state (swap_cells_answer s p work roots cells) s
+      (network_state (reordered_state s (exchanged p s.order)) (swapped_count s p roots cells))
+
   -- the answer 0, and the very state
-  pub swapped-twice : swap_cells_outcome first p work₂ roots₁ cells₁ ≡ record { answer = Done 0; state = s }
+  pub swapped-twice : swap_cells_outcome first p work₂ roots₁ cells₁ ≡ Ok (record { value = 0; state = s })
   unfolding swap_cells_outcome swap_cells_roots swap_cells_cells
   swapped-twice =
       let P = passed s p work roots cells (reached s p work roots cells d) in
-      rw d (state-back s p work roots cells P (has_room s p work roots cells P d) work₂ long)
+      rw (d, left-by d) (state-back s p work roots cells P (has_room s p work roots cells P d) work₂ long)
 
   -- the counted cells and the roots
   pub twice-network : lent_diagram s.count s.m (swap_cells_cells first p work₂ roots₁ cells₁) (swap_cells_roots first p work₂ roots₁ cells₁)
@@ -204,4 +212,4 @@ module _ (s : State) (p : ℕ) (work roots cells : List ℕ) (d : done (swap_cel
   unfolding swap_cells_outcome swap_cells_roots swap_cells_cells
   twice-network =
       let P = passed s p work roots cells (reached s p work roots cells d) in
-      rw d (network-back s p work roots cells P (has_room s p work roots cells P d) work₂ long)
+      rw (d, left-by d) (network-back s p work roots cells P (has_room s p work roots cells P d) work₂ long)

@@ -1,16 +1,16 @@
 -- Swapping in the cells (document 02, 2.7): 10, 22, 9, 24, 32, then 23 with the cells wanted; else section 4's network 'of the same filled
 -- table under the new order'.
 -- Assumes nothing.
-use Rattle.std.specs.Prelude.{◌≡◌, Bool, true, cond, ◌&&◌, ◌||◌, List, ◌++◌, ℕ, suc, ◌*◌, eqb, ltb, leb, length, get_or, take, drop}
+use Rattle.std.specs.Prelude.{◌≡◌, Bool, true, cond, ◌&&◌, ◌||◌, List, ◌++◌, ℕ, suc, ◌*◌, eqb, ltb, leb, length, get_or, take, drop, Ok}
 use Rattle.lists.specs.Written.{over}
 use Rattle.diagram.specs.Networks.Diagram.{Diagram, gives}
 use Rattle.diagram.specs.Orders.Order.{row_under}
 use Rattle.diagram.specs.Table.{Table, network_of, cost, Computes, Solves, Fits}
 use Rattle.diagram.specs.Demands.{Least}
 use Rattle.diagram.specs.Canonical.Computed.{computed_table, canonical}
-use Rattle.table.specs.declared.Answer.{Answer}
-use Rattle.table.specs.declared.Answer.TheVariants.{Done, ShortBuffer, NoSuch, NoNetwork, BadCells, NotCanonical, TooSmall}
-use Rattle.table.specs.declared.Outcome.{Outcome}
+use Rattle.table.specs.Answer.{Answer, Outcome, outcome_of}
+use Rattle.table.specs.declared.Refusal.TheVariants.{ShortBuffer, NoSuch, NoNetwork, BadCells, NotCanonical, TooSmall}
+use Rattle.table.specs.declared.Done.{Done}
 use Rattle.table.specs.declared.State.{State}
 use Rattle.table.specs.Answer.{unless, done, number}
 use Rattle.table.specs.State.{order_of, stage_of, is_network, exchanged, reordered_state}
@@ -49,21 +49,17 @@ swap_checks s p work roots cells next =
 unfoldable pub swap_cells_answer : State → ℕ → List ℕ → List ℕ → List ℕ → Answer
 swap_cells_answer s p work roots cells =
     swap_checks s p work roots cells
-    (unless (leb (swapped_count s p roots cells) (capacity cells)) (TooSmall (swapped_count s p roots cells)) (Done 0))
+    (unless (leb (swapped_count s p roots cells) (capacity cells)) (TooSmall (swapped_count s p roots cells)) (Ok 0))
 
 -- the checks before 23 are passed
 abbrev pub reaches_swap : State → ℕ → List ℕ → List ℕ → List ℕ → Bool
-reaches_swap s p work roots cells = done (swap_checks s p work roots cells (Done 0))
+reaches_swap s p work roots cells = done (swap_checks s p work roots cells (Ok 0))
 
 -- the new order, 'the state keeps stage network'
 unfoldable pub swap_cells_outcome : State → ℕ → List ℕ → List ℕ → List ℕ → Outcome
 swap_cells_outcome s p work roots cells =
-    record {
-      answer = swap_cells_answer s p work roots cells;
-      state =
-          cond (done (swap_cells_answer s p work roots cells))
-          (network_state (reordered_state s (exchanged p s.order)) (swapped_count s p roots cells)) s;
-    }
+    outcome_of (swap_cells_answer s p work roots cells)
+    (network_state (reordered_state s (exchanged p s.order)) (swapped_count s p roots cells))
 
 -- 'Every call that writes cells writes all 16 roots (unused ones zero) and leaves cells past the new count unchanged'
 unfoldable pub swap_cells_roots : State → ℕ → List ℕ → List ℕ → List ℕ → List ℕ
@@ -83,9 +79,9 @@ clears_swap a = done a || (eqb (number a) 23 || eqb (number a) 32)
 unfoldable pub swap_cells_work : State → ℕ → List ℕ → List ℕ → List ℕ → List ℕ
 swap_cells_work s p work roots cells = cond (clears_swap (swap_cells_answer s p work roots cells)) (zero_work work) work
 
--- Demands 2 and 3 after a success, 'for that same filled table': r is what the call answers, D the diagram in the lent cells and roots
+-- Demands 2 and 3 after a success, 'for that same filled table': r is what the call answers and leaves, D the diagram in the lent cells and roots
 -- afterwards, and this the board
-pub record Swapped (s : State) (p : ℕ) (roots cells : List ℕ) (r : Outcome) (D : Diagram) (board : ℕ) : Type 0 where
+pub record Swapped (s : State) (p : ℕ) (roots cells : List ℕ) (r : Done) (D : Diagram) (board : ℕ) : Type 0 where
   -- well-formed, one root an output, and it computes the table under the new order
   pub solves : Solves true (cell_table s roots cells) (exchanged_order s p) D
   -- every row evaluates as before

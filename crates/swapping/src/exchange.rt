@@ -2,208 +2,131 @@
 // (document 02, 2.7).
 ghost use Rattle.std.specs.Prelude.{◌≡◌, [], ◌∷◌, map, ◌+◌, ◌*◌, ◌≤◌, ◌<◌, length, take};
 ghost use Rattle.diagram.specs.Networks.Bound.{most_variables, most_outputs};
-ghost use Rattle.diagram.specs.Exchanging.Exchange.{both, entries_after, link_into, entries_from, links_from, half_pair, half_pairs, exchanged_trace};
-ghost use Rattle.matching.specs.Links.{link_number};
+ghost use Rattle.diagram.specs.Exchanging.Exchange.{both, entries_after, entries_from, links_from, half_pairs, exchanged_trace};
 ghost use Rattle.fill.specs.Work.{work_size, links_at, all_links};
 ghost use Rattle.network.specs.Levels.{stored_limit, put_stored};
-ghost use Rattle.swapping.specs.Inner.Exchange.{pair_limit, most_pairs, pair_of, pairs_in, lent_at, slots, Seen, Shows, put_links, Entered};
+ghost use Rattle.swapping.specs.Inner.Exchange.{most_pairs, lent_at, put_links, Entered};
 
-use crate::pairs::{half_pair, joined};
-use crate::seen::{Placed, SLOTS, entry_at, place};
-use block::numbers::lent_number;
+use crate::pairs::{Pair, half_pair};
+use crate::seen::{Entries, PAIRS};
 use diagram::VARIABLES;
 use fill::LINKS;
 
-// Puts a link's number at byte i, low byte first.
-fn put_link(work: &mut [u8], i: usize, x: usize)
+// Puts a link's number at byte i, low byte first. As network's own leaf, which asks for room: no call between crates asks for anything.
+fn put_stored(work: &mut [u8], i: usize, x: usize)
     requires { (i + 1 < length work.old) × (x < stored_limit) }
     ensures { work.new ≡ put_stored work.old i x }
 {
-    work[i] = (x % 256) as u8;
-    work[i + 1] = (x / 256) as u8;
+    let [low, high] = (x as u16).to_le_bytes();
+    work[i] = low;
+    work[i + 1] = high;
 }
 
-// Links half `high` of an entry of level q: its link goes to byte `at`.
-fn link_half(
-    cells: &[u16],
-    p: usize,
-    q: usize,
-    high: bool,
-    x: usize,
-    list: &mut [u32],
-    len: usize,
-    marks: &mut [u16],
-    work: &mut [u8],
-    at: usize,
-) -> Placed
-    requires p_lt_most_variables { (p < most_variables) × (x < pair_limit) × Seen len list.old marks.old × (len < length list.old) }
-    requires list_bound { (2 * length list.old < stored_limit) × (at + 1 < length work.old) }
-    ensures seen { Shows (entries_after (pairs_in len list.old) (half_pair (lent_at cells.now) p q high (pair_of x))) result.len
-        list.new marks.new }
-    ensures link { result.link ≡ link_number (link_into (entries_after (pairs_in len list.old)
-        (half_pair (lent_at cells.now) p q high (pair_of x))) (half_pair (lent_at cells.now) p q high (pair_of x))) }
-    ensures work { work.new ≡ put_stored work.old at result.link }
+// Sees a pair, and puts its link at byte `at`.
+fn link_pair(pair: Pair, entries: &mut Entries, work: &mut [u8], at: usize)
+    requires room { length entries.old < most_pairs }
+    requires at_in_bounds { at + 1 < length work.old }
+    ensures entries { entries.new ≡ entries_after entries.old pair }
+    ensures work { work.new ≡ put_links work.old at (links_from entries.old (pair ∷ [])) }
 {
-    let half = half_pair(cells, p, q, high, x);
-    let placed = place(half, list, len, marks);
-    put_link(work, at, placed.link);
-    placed
+    let link = entries.place(pair);
+    put_stored(work, at, link);
 }
 
-// Links the two halves of an entry of level q, from byte `at` on. Gives how many entries the next level has.
+// Links the two halves of an entry of level q, from byte `at` on.
+// Cells and p are no struct: each clause would have to name it twice, as it was passed.
 fn link_entry(
     cells: &[u16],
     p: usize,
     q: usize,
-    x: usize,
-    list: &mut [u32],
-    len: usize,
-    marks: &mut [u16],
+    entry: Pair,
+    below: &mut Entries,
     work: &mut [u8],
     at: usize,
-) -> usize
-    requires p_lt_most_variables { (p < most_variables) × (x < pair_limit) × Seen len list.old marks.old × (len + 1 < length list.old) }
-    requires list_bound { (2 * length list.old < stored_limit) × (at + 3 < length work.old) }
-    ensures seen { Shows (entries_from (pairs_in len list.old) (half_pairs (lent_at cells.now) p q (pair_of x ∷ []))) result
-        list.new marks.new }
+)
+    requires place { p < most_variables }
+    requires room { length below.old + 1 < most_pairs }
+    requires at_in_bounds { at + 3 < length work.old }
+    ensures below { below.new ≡ entries_from below.old (half_pairs (lent_at cells.now) p q (entry ∷ [])) }
     ensures work { work.new ≡ put_links work.old at
-        (links_from (pairs_in len list.old) (half_pairs (lent_at cells.now) p q (pair_of x ∷ []))) }
+        (links_from below.old (half_pairs (lent_at cells.now) p q (entry ∷ []))) }
 {
-    let low = link_half(cells, p, q, false, x, list, len, marks, work, at);
-    let high = link_half(cells, p, q, true, x, list, low.len, marks, work, at + 2);
-    high.len
+    let low = half_pair(cells, p, q, false, entry);
+    link_pair(low, below, work, at);
+    let high = half_pair(cells, p, q, true, entry);
+    link_pair(high, below, work, at + 2);
 }
 
-// Links the halves of the first e entries of level q, from byte `at` on; the next level's entries go to an empty list. Gives how many.
-fn link_pairs(
+// Links the halves of the entries of level q, from byte `at` on; the next level's entries come of it.
+fn link_level(
     cells: &[u16],
     p: usize,
     q: usize,
-    seen: &[u32],
-    e: usize,
-    list: &mut [u32],
-    marks: &mut [u16],
+    level: &[Pair],
+    below: &mut Entries,
     work: &mut [u8],
     at: usize,
-) -> usize
-    requires p_lt_most_variables { (p < most_variables) × (e ≤ length seen.now) × (2 * e ≤ length list.old) × (2 * length list.old < stored_limit) }
-    requires e_in_bounds { (at + 4 * e ≤ length work.old) × (length marks.old ≡ slots) }
-    ensures list { (result ≤ length list.new)
-        × (pairs_in result list.new ≡ entries_from [] (half_pairs (lent_at cells.now) p q (pairs_in e seen.now))) }
+)
+    requires place { p < most_variables }
+    requires room { 2 * length level.now ≤ most_pairs }
+    requires links_in_bounds { at + 4 * length level.now ≤ length work.old }
+    ensures below { below.new ≡ entries_from [] (half_pairs (lent_at cells.now) p q level.now) }
     ensures work { work.new ≡ put_links work.old at
-        (links_from [] (half_pairs (lent_at cells.now) p q (pairs_in e seen.now))) }
+        (links_from [] (half_pairs (lent_at cells.now) p q level.now)) }
 {
-    let mut len: usize = 0;
-    for j in 0..e {
-        let x = entry_at(seen, j);
-        len = link_entry(cells, p, q, x, list, len, marks, work, at + 4 * j);
-    }
-    len
-}
-
-// Links the first m roots; the top level's entries go to an empty list.
-fn link_roots(
-    roots: &[u16],
-    m: usize,
-    list: &mut [u32],
-    marks: &mut [u16],
-    work: &mut [u8],
-) -> usize
-    requires m_le_most_outputs { (m ≤ most_outputs) × (m ≤ length roots.now) × (m ≤ length list.old) × (2 * length list.old < stored_limit) }
-    requires m_in_bounds { (links_at + 2 * m ≤ length work.old) × (length marks.old ≡ slots) }
-    ensures list { (result ≤ length list.new) × (pairs_in result list.new ≡ entries_from [] (map both (take m roots.now))) }
-    ensures work { work.new ≡ put_links work.old links_at (links_from [] (map both (take m roots.now))) }
-{
-    let mut len: usize = 0;
-    for j in 0..m {
-        let r = lent_number(roots, j);
-        let placed = place(joined(r, r), list, len, marks);
-        put_link(work, LINKS + 2 * j, placed.link);
-        len = placed.len;
-    }
-    len
-}
-
-// Copies the first len pairs.
-fn copy_pairs(from: &[u32], len: usize, to: &mut [u32])
-    requires { (len ≤ length from.now) × (len ≤ length to.old) }
-    ensures { take len to.new ≡ take len from.now }
-{
-    for i in 0..len {
-        to[i] = from[i];
+    below.clear();
+    for (j, entry) in level.iter().enumerate() {
+        link_entry(cells, p, q, *entry, below, work, at + 4 * j);
     }
 }
 
-// Links the halves of the e entries of level q; the next level's entries come in their place. Gives how many.
-fn next_level(
-    cells: &[u16],
-    p: usize,
-    q: usize,
-    seen: &mut [u32],
-    e: usize,
-    list: &mut [u32],
-    work: &mut [u8],
-    at: usize,
-) -> usize
-    requires p_lt_most_variables { (p < most_variables) × (2 * e ≤ length list.old) × (length list.old ≡ length seen.old) }
-    requires list_bound { (2 * length list.old < stored_limit) × (at + 4 * e ≤ length work.old) }
-    ensures seen { (result ≤ length seen.new)
-        × (pairs_in result seen.new ≡ entries_from [] (half_pairs (lent_at cells.now) p q (pairs_in e seen.old))) }
-    ensures work { work.new ≡ put_links work.old at
-        (links_from [] (half_pairs (lent_at cells.now) p q (pairs_in e seen.old))) }
+// Links the roots; the top level's entries come of it.
+fn link_roots(roots: &[u16], top: &mut Entries, work: &mut [u8])
+    requires empty { top.old ≡ [] }
+    requires room { length roots.now ≤ most_outputs }
+    requires links_in_bounds { links_at + 2 * length roots.now ≤ length work.old }
+    ensures top { top.new ≡ entries_from [] (map both roots.now) }
+    ensures work { work.new ≡ put_links work.old links_at (links_from [] (map both roots.now)) }
 {
-    let mut marks = [0u16; SLOTS];
-    let len = link_pairs(cells, p, q, seen, e, list, &mut marks, work, at);
-    copy_pairs(list, len, seen);
-    len
+    for (j, root) in roots.iter().enumerate() {
+        let pair = Pair::both(*root as usize);
+        link_pair(pair, top, work, LINKS + 2 * j);
+    }
 }
 
-// Links the first m roots, with marks of its own.
-fn top_level(roots: &[u16], m: usize, seen: &mut [u32], work: &mut [u8]) -> usize
-    requires m_le_most_outputs { (m ≤ most_outputs) × (m ≤ length roots.now) × (m ≤ length seen.old) × (2 * length seen.old < stored_limit) }
-    requires m_in_bounds { links_at + 2 * m ≤ length work.old }
-    ensures seen { (result ≤ length seen.new) × (pairs_in result seen.new ≡ entries_from [] (map both (take m roots.now))) }
-    ensures work { work.new ≡ put_links work.old links_at (links_from [] (map both (take m roots.now))) }
-{
-    let mut marks = [0u16; SLOTS];
-    link_roots(roots, m, seen, &mut marks, work)
-}
-
-// Links the outputs and the n levels, with lists that are lent, from the work buffer's links on. Gives how many entries each level has.
+// Links the outputs and the n levels, from the work buffer's links on, with lists that are lent. Gives how many entries each level has.
 fn link_levels(
     cells: &[u16],
     n: usize,
     p: usize,
     roots: &[u16],
-    m: usize,
-    seen: &mut [u32],
-    list: &mut [u32],
+    level: &mut [Pair],
+    below: &mut Entries,
     work: &mut [u8],
 ) -> [usize; VARIABLES]
-    requires n_le_most_variables { (n ≤ most_variables) × (p < most_variables) × (m ≤ most_outputs) × (m ≤ length roots.now) }
-    requires list_len { (length list.old ≡ length seen.old) × (2 * length list.old < stored_limit) }
-    requires roots_in_bounds { length (all_links (exchanged_trace (lent_at cells.now) p n (map both (take m roots.now)))) ≤ length seen.old }
-    requires seen_in_bounds { links_at + 2 * length seen.old ≤ length work.old }
-    ensures entries { Entered (lent_at cells.now) p n (map both (take m roots.now)) result }
+    requires few { (n ≤ most_variables) × (length roots.now ≤ most_outputs) }
+    requires empty { below.old ≡ [] }
+    requires place { p < most_variables }
+    requires links_fit { length (all_links (exchanged_trace (lent_at cells.now) p n (map both roots.now))) ≤ most_pairs }
+    requires level_room { most_pairs ≤ length level.old }
+    requires work_room { work_size ≤ length work.old }
+    ensures entries { Entered (lent_at cells.now) p n (map both roots.now) result }
     ensures work { work.new ≡ put_links work.old links_at
-        (all_links (exchanged_trace (lent_at cells.now) p n (map both (take m roots.now)))) }
+        (all_links (exchanged_trace (lent_at cells.now) p n (map both roots.now))) }
 {
     let mut entries = [0usize; VARIABLES];
-    let mut len = top_level(roots, m, seen, work);
-    let mut at = LINKS + 2 * m;
+    link_roots(roots, below, work);
+    let mut at = LINKS + 2 * roots.len();
     for q in 0..n {
-        let next = next_level(cells, p, q, seen, len, list, work, at);
+        let len = below.copy_to(level);
+        link_level(cells, p, q, &level[..len], below, work, at);
         entries[q] = len;
         at += 4 * len;
-        len = next;
     }
     entries
 }
 
-// How many pairs a list has room for; specs/Inner/Exchange.antt has the definition, `most_pairs`.
-const PAIRS: usize = 4350;
-
-// Links the outputs and the n levels where levels p and p + 1 are exchanged, with lists of its own.
+// Links the first m outputs and the n levels where levels p and p + 1 are exchanged, with lists of its own.
 pub(crate) fn exchanged_links(
     cells: &[u16],
     n: usize,
@@ -219,7 +142,7 @@ pub(crate) fn exchanged_links(
     ensures work { work.new ≡ put_links work.old links_at
         (all_links (exchanged_trace (lent_at cells.now) p n (map both (take m roots.now)))) }
 {
-    let mut seen = [0u32; PAIRS];
-    let mut list = [0u32; PAIRS];
-    link_levels(cells, n, p, roots, m, &mut seen, &mut list, work)
+    let mut level = [Pair::both(0); PAIRS];
+    let mut below = Entries::new();
+    link_levels(cells, n, p, &roots[..m], &mut level, &mut below, work)
 }

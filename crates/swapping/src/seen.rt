@@ -1,130 +1,138 @@
-// The entries of a level, as pairs in a list: each class once, as it was seen first (document 02, 2.7). Marks in slots tell most classes
-// apart without a search.
-ghost use Rattle.std.specs.Prelude.{◌≡◌, true, ◌*◌, ◌≤◌, ◌<◌, T, length, get_or};
-ghost use Rattle.lists.specs.Lists.{distinct, index};
-ghost use Rattle.diagram.specs.Exchanging.Exchange.{opposite_pair, normal_pair, same_class, constant_pair, entries_after, link_into};
+// The entries of a level, as pairs: each class once, as it was seen first (document 02, 2.7). Marks in slots tell most classes apart
+// without a search.
+ghost use Rattle.std.specs.Prelude.{◌≡◌, true, [], ◌≤◌, ◌<◌, ◌++◌, ◌∷◌, length, take, None};
+ghost use Rattle.std.specs.List.{position};
+ghost use Rattle.diagram.specs.Exchanging.Exchange.{opposite_pair, normal_pair, same_class, entries_after, link_into};
 ghost use Rattle.matching.specs.Links.{link_number};
 ghost use Rattle.network.specs.Levels.{stored_limit};
-ghost use Rattle.swapping.specs.Inner.Exchange.{pair_limit, pair_of, pairs_in, slots, pair_slot, Seen, Shows};
+ghost use Rattle.swapping.specs.Inner.Exchange.{slots, pair_slot, most_pairs};
 
-use crate::pairs::{STORED, normal_of, opposite_pair};
-use block::numbers::lent_number;
+use crate::pairs::Pair;
+use std::marker::Model;
+
+// How many entries a level may have; specs/Inner/Exchange.antt has the definition, `most_pairs`.
+pub(crate) const PAIRS: usize = 4350;
 
 // How many slots there are; specs/Inner/Exchange.antt has the definition, `slots`.
-pub(crate) const SLOTS: usize = 8192;
+const SLOTS: usize = 8192;
 
-// How many entries a list has after a pair is seen, and the number of the pair's link.
-#[derive(Clone, Copy)]
-pub(crate) struct Placed {
-    pub(crate) len: usize,
-    pub(crate) link: usize,
+// What a reference is below; network's specs/Levels.antt has the definition, `stored_limit`.
+const STORED: usize = 65536;
+
+// The slot of a class, by its normal pair.
+#[tactic(auto, unfolding(crate::specs::Inner::Exchange::pair_slot))]
+fn slot_of(normal: Pair) -> usize
+    ensures { (result ≡ pair_slot normal) × (result < slots) }
+{
+    let low = normal.low();
+    (low / 2 + 1021 * (normal.high() + STORED - low)) % SLOTS
 }
 
-// Whether a pair is one constant.
-fn is_constant(x: usize) -> bool
-    ensures { result ≡ constant_pair (pair_of x) }
+// Whether two pairs are of one class, where `opposite` is the inverse of the first.
+fn is_alike(pair: Pair, opposite: Pair, entry: Pair) -> bool
+    requires { opposite ≡ opposite_pair true pair }
+    ensures { result ≡ same_class pair entry }
 {
-    let low = x % STORED;
-    if 2 <= low {
-        return false;
-    }
-    low == x / STORED
+    entry == pair || entry == opposite
 }
 
-// The slot of a class.
-fn slot_of(c: usize) -> usize
-    requires { c < pair_limit }
-    ensures { (result ≡ pair_slot (pair_of c)) × (result < slots) }
-{
-    let low = c % STORED;
-    (low / 2 + 1021 * (c / STORED + STORED - low)) % SLOTS
+// A list of pairs, and for each slot a mark: the number of the last entry that was put there, counted from 1.
+#[derive(Drop)]
+pub(crate) struct Entries {
+    list: [Pair; PAIRS],
+    len: usize,
+    marks: [u16; SLOTS],
 }
 
-// A stored number as one to compute with.
-fn wide(x: u32) -> usize
-    ensures { (result ≡ x) × (result < pair_limit) }
-{
-    x as usize
+// Clauses see the entries.
+impl Model for Entries {
+    ghost use Rattle.std.specs.Prelude.{List, take, ◌≤◌};
+    ghost use Rattle.diagram.specs.Exchanging.Exchange as exchange;
+    ghost use Rattle.swapping.specs.Inner.Exchange.{most_pairs, Seen};
+
+    ghost Value = { List exchange.Pair };
+
+    ghost view = { λ e. take e.len e.list };
+
+    ghost invariant = { λ e. (e.len ≤ most_pairs) × Seen (take e.len e.list) e.marks };
 }
 
-// Entry i, as a number.
-pub(crate) fn entry_at(list: &[u32], i: usize) -> usize
-    requires { i < length list.now }
-    ensures { (result ≡ get_or list.now i 0) × (result < pair_limit) }
-{
-    wide(list[i])
-}
-
-// Whether entry i is of x's class, where o is the number of x's inverse.
-fn is_alike(list: &[u32], i: usize, x: usize, o: usize) -> bool
-    requires { (i < length list.now) × (pair_of o ≡ opposite_pair true (pair_of x)) }
-    ensures { result ≡ same_class (pair_of x) (pair_of (get_or list.now i 0)) }
-{
-    let y = entry_at(list, i);
-    if y == x {
-        return true;
-    }
-    y == o
-}
-
-// The number of the entry of x's class, or len: by comparing all.
-fn search_entry(x: usize, o: usize, list: &[u32], len: usize) -> usize
-    requires { (pair_of o ≡ opposite_pair true (pair_of x)) × (len ≤ length list.now) × T (distinct same_class (pairs_in len list.now)) }
-    ensures { result ≡ index same_class (pair_of x) (pairs_in len list.now) }
-{
-    for i in 0..len {
-        if is_alike(list, i, x, o) {
-            return i;
+impl Entries {
+    pub(crate) fn new() -> Entries
+        ensures { result ≡ [] }
+    {
+        Entries {
+            list: [Pair::both(0); PAIRS],
+            len: 0,
+            marks: [0; SLOTS],
         }
     }
-    len
-}
 
-// The same, by the mark of the class's slot where that tells it.
-fn find_entry(x: usize, o: usize, slot: usize, list: &[u32], len: usize, marks: &[u16]) -> usize
-    requires { (pair_of o ≡ opposite_pair true (pair_of x)) × (slot ≡ pair_slot (normal_pair (pair_of x))) × Seen len list.now marks.now }
-    ensures { result ≡ index same_class (pair_of x) (pairs_in len list.now) }
-{
-    let mark = lent_number(marks, slot);
-    if mark == 0 {
-        return len;
+    pub(crate) fn clear(&mut self)
+        ensures { self.new ≡ [] }
+    {
+        self.len = 0;
+        self.marks.fill(0);
     }
-    if len < mark {
-        return search_entry(x, o, list, len);
-    }
-    if is_alike(list, mark - 1, x, o) {
-        return mark - 1;
-    }
-    search_entry(x, o, list, len)
-}
 
-// Sees the pair x: appends it where its class is new.
-pub(crate) fn place(x: usize, list: &mut [u32], len: usize, marks: &mut [u16]) -> Placed
-    requires { (x < pair_limit) × Seen len list.old marks.old × (len < length list.old) × (2 * length list.old < stored_limit) }
-    ensures seen { Shows (entries_after (pairs_in len list.old) (pair_of x)) result.len list.new marks.new }
-    ensures link { (result.link ≡ link_number (link_into (entries_after (pairs_in len list.old) (pair_of x)) (pair_of x)))
-        × (result.link < stored_limit) }
-{
-    if is_constant(x) {
-        return Placed {
-            len,
-            link: x % STORED,
-        };
+    // Copies the entries to the front of a list. Gives how many there are.
+    pub(crate) fn copy_to(&self, list: &mut [Pair]) -> usize
+        requires { most_pairs ≤ length list.old }
+        ensures count { (result ≡ length self.now) × (result ≤ most_pairs) }
+        ensures copied { take result list.new ≡ self.now }
+    {
+        let len = self.len;
+        list[..len].copy_from_slice(&self.list[..len]);
+        len
     }
-    let o = opposite_pair(x);
-    let slot = slot_of(normal_of(x, o));
-    let k = find_entry(x, o, slot, list, len, marks);
-    if k < len {
-        let odd = (x + entry_at(list, k)) % 2;
-        return Placed {
-            len,
-            link: 2 * (k + 1) + odd,
-        };
+
+    // The number of the entry of the pair's class, by the mark of the class's slot where that tells it.
+    fn find(&self, pair: Pair, opposite: Pair, slot: usize) -> Option<usize>
+        requires slot { (slot ≡ pair_slot (normal_pair pair)) × (slot < slots) }
+        requires opposite { opposite ≡ opposite_pair true pair }
+        ensures { result ≡ position (same_class pair) self.now }
+    {
+        let mark = self.marks[slot] as usize;
+        if mark == 0 {
+            return None;
+        }
+        if mark <= self.len && is_alike(pair, opposite, self.list[mark - 1]) {
+            return Some(mark - 1);
+        }
+        let len = self.len;
+        self.list[..len]
+            .iter()
+            .position(|entry| is_alike(pair, opposite, *entry))
     }
-    list[len] = x as u32;
-    marks[slot] = (len + 1) as u16;
-    Placed {
-        len: len + 1,
-        link: 2 * (len + 1),
+
+    // Puts a pair of a new class behind the others.
+    fn append(&mut self, pair: Pair, slot: usize)
+        requires slot { (slot ≡ pair_slot (normal_pair pair)) × (slot < slots) }
+        requires room { length self.old < most_pairs }
+        requires new { position (same_class pair) self.old ≡ None }
+        ensures { self.new ≡ self.old ++ pair ∷ [] }
+    {
+        self.list[self.len] = pair;
+        self.len += 1;
+        self.marks[slot] = self.len as u16;
+    }
+
+    // Sees a pair: appends it where its class is new. Gives the number of its link.
+    pub(crate) fn place(&mut self, pair: Pair) -> usize
+        requires { length self.old < most_pairs }
+        ensures entries { self.new ≡ entries_after self.old pair }
+        ensures link { (result ≡ link_number (link_into self.new pair)) × (result < stored_limit) }
+    {
+        if pair.is_constant() {
+            return pair.low();
+        }
+        let opposite = pair.opposite();
+        let slot = slot_of(pair.normal());
+        if let Some(k) = self.find(pair, opposite, slot) {
+            let entry = self.list[k];
+            return 2 * (k + 1) + (pair.low() + entry.low()) % 2;
+        }
+        self.append(pair, slot);
+        2 * self.len
     }
 }

@@ -1,8 +1,8 @@
 // Swapping two neighbouring levels in the held cells, with no table and no filling (document 02, 2.7).
-ghost use Rattle.std.specs.Prelude.{◌≡◌, true, ◌↔◌, T};
+ghost use Rattle.std.specs.Prelude.{◌≡◌, true, ◌↔◌, T, Ok, IfOk, cond, eqb};
 ghost use Rattle.diagram.specs.Demands.{NoneFits};
-ghost use Rattle.table.specs.declared.Answer.TheVariants.{Done as Success};
-ghost use Rattle.table.specs.Answer.{done, number};
+ghost use Rattle.table.specs.Answer.{number, refusal_number, answer_of};
+ghost use Rattle.fill.specs.Work.{cleared_work};
 ghost use Rattle.lent.specs.Lent.{lent_diagram};
 ghost use Rattle.network.specs.Build.{capacity};
 ghost use Rattle.swapping.specs.Swap.{cell_table, exchanged_order, swap_checks, reaches_swap, swap_cells_outcome, swap_cells_roots, swap_cells_cells};
@@ -14,29 +14,23 @@ use fill::{WORK, clear};
 use lent::ROOTS;
 use network::build::with_network;
 use network::reading::read_links;
-use table::numbers::{is_done, number_of};
 use table::swap::swap;
-use table::valid::holds_network;
-use table::{Answer, Outcome, State};
+use table::{Answer, Done, Outcome, Refusal, State};
 
 // The checks before 23: 10, 22, 9, 24, 32.
 fn swap_checks(state: State, p: usize, work: &[u8], roots: &[u16], cells: &[u16]) -> Answer
-    ensures { result ≡ swap_checks state p work.now roots.now cells.now (Success 0) }
+    ensures { result ≡ swap_checks state p work.now roots.now cells.now (Ok 0) }
 {
     if work.len() < WORK {
-        return Answer::ShortBuffer;
+        return Err(Refusal::ShortBuffer);
     }
     if roots.len() < ROOTS {
-        return Answer::ShortBuffer;
+        return Err(Refusal::ShortBuffer);
     }
-    if !holds_network(state) {
-        return Answer::NoNetwork;
+    if !state.holds_network() {
+        return Err(Refusal::NoNetwork);
     }
-    let swapped = swap(state, p);
-    let place = swapped.answer;
-    if !is_done(place) {
-        return place;
-    }
+    swap(state, p)?;
     test_held(state, roots, cells)
 }
 
@@ -56,17 +50,21 @@ fn swap_checked(
 {
     let n = state.n;
     let m = state.m;
-    let swapped = swap(state, p);
+    let swapped = swap(state, p).unwrap();
     let entries = exchanged_links(cells, n, p, roots, m, work);
-    let answer = read_links(n, m, entries, work, roots, cells);
-    let Answer::Done(total) = answer else {
-        return Outcome { answer, state };
-    };
-    let exchanged = swapped.state;
-    let after = with_network(exchanged, total);
-    Outcome {
-        answer: Answer::Done(0),
-        state: after,
+    let total = read_links(n, m, entries, work, roots, cells)?;
+    Ok(Done {
+        value: 0,
+        state: with_network(swapped.state, total),
+    })
+}
+
+// Makes the work buffer zero after 32, the only refusal of the checks that clears it.
+fn clear_after(refusal: Refusal, work: &mut [u8])
+    ensures { work.new ≡ cond (eqb (refusal_number refusal) 32) (cleared_work work.old) work.old }
+{
+    if let Refusal::NotCanonical = refusal {
+        clear(work);
     }
 }
 
@@ -82,19 +80,15 @@ pub fn swap_cells(
     ensures roots { roots.new ≡ swap_cells_roots state p work.old roots.old cells.old }
     ensures cells { cells.new ≡ swap_cells_cells state p work.old roots.old cells.old }
     ensures work { work.new ≡ swap_cells_work state p work.old roots.old cells.old }
-    ensures swapped { done result.answer ≡ true → Swapped state p roots.old cells.old result
-        (lent_diagram result.state.count state.m cells.new roots.new) (capacity cells.new) }
+    ensures swapped { IfOk result (λ r. Swapped state p roots.old cells.old r
+        (lent_diagram r.state.count state.m cells.new roots.new) (capacity cells.new)) }
     ensures fit { reaches_swap state p work.old roots.old cells.old ≡ true
-        → (number result.answer ≡ 23)
+        → (number (answer_of result) ≡ 23)
         ↔ NoneFits true (cell_table state roots.old cells.old) (exchanged_order state p) (capacity cells.old) }
 {
-    let answer = swap_checks(state, p, work, roots, cells);
-    if is_done(answer) {
+    let Err(refusal) = swap_checks(state, p, work, roots, cells) else {
         return swap_checked(state, p, work, roots, cells);
-    }
-    if number_of(answer) == 32 {
-        clear(work);
-        return Outcome { answer, state };
-    }
-    Outcome { answer, state }
+    };
+    clear_after(refusal, work);
+    Err(refusal)
 }

@@ -1,11 +1,11 @@
 -- When a state is valid: the heading's rules tested one after the other, and what a state that holds a table keeps.
 -- Assumes nothing.
 use mathlib.Core.Path.{◌≡◌}
-use mathlib.Core.Bool.{true, false, not, ◌&&◌, and-false}
+use mathlib.Core.Bool.{true, false, not, ◌&&◌}
 use mathlib.Core.List.{List}
-use Prim.Native.Nat.{ℕ, ◌*◌, ◌^◌, ◌≤◌, ◌<◌}
+use Prim.Native.Nat.{ℕ, ◌*◌, ◌^◌, ◌≤◌}
 use native.Mathlib.Omega.{arith}
-use borrow.Author.Tests.{le-leb, lt-leb}
+use borrow.Author.Tests.{le-leb}
 use lib.Dec.{T, leb, leb→le}
 use Rattle.lists.proofs.Bools.{split, to-T, and_l, and_r}
 use Rattle.diagram.specs.Networks.Bound.{most_variables, most_outputs}
@@ -16,20 +16,7 @@ use Rattle.table.specs.State.{good_heading, order_of, stage_of, is_nothing}
 use Rattle.table.specs.Sizes.{most_bits}
 use Rattle.table.proofs.Files.Answers.{stream-small}
 
--- the first rule that is broken, or the order's
-
-pub many-inputs : (n m : ℕ) (order : List ℕ) → most_variables < n → good_heading n m order ≡ false
-unfolding good_heading
-many-inputs n m order h = rw (lt-leb n most_variables h)
-
-pub no-outputs : (n m : ℕ) (order : List ℕ) → m ≡ 0 → good_heading n m order ≡ false
-unfolding good_heading
-no-outputs n m order e = rw (lt-leb 1 m (omega arith)) (and-false (leb n most_variables))
-
-pub many-outputs : (n m : ℕ) (order : List ℕ) → most_outputs < m → good_heading n m order ≡ false
-unfolding good_heading
-many-outputs n m order h = rw (lt-leb m most_outputs h, and-false (leb 1 m)) (and-false (leb n most_variables))
-
+-- a heading that keeps the other rules, by its order
 pub good-order : (n m : ℕ) (order : List ℕ) → n ≤ most_variables → (m ≡ 0 → ⊥) → m ≤ most_outputs → good_heading n m order ≡ is_order n order
 unfolding good_heading
 good-order n m order h d k = rw (le-leb n most_variables h, le-leb 1 m (omega arith), le-leb m most_outputs k)
@@ -84,3 +71,6 @@ module _ (s : State) (held : T (not (is_nothing (stage_of s)))) where
 
   pub few_bits : s.m * 2 ^ s.n ≤ most_bits
   few_bits = stream-small s.n s.m few-inputs few-outputs
+
+-- how small the numbers of a held table are
+pub ruleset held_small = (few-inputs, few_bits)

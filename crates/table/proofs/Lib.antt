@@ -1,4 +1,5 @@
 pub mod Held
+pub mod Outcomes
 pub mod Variants
 pub mod Files
 pub mod Ordering

@@ -1,14 +1,13 @@
 -- What each call of this crate answers and leaves (document 01, sections 2, 6 and 7).
 -- Assumes nothing.
-use Rattle.std.specs.Prelude.{cond, not, ◌&&◌, List, map, ℕ, suc, ◌+◌, ltb, leb, length}
+use Rattle.std.specs.Prelude.{cond, not, ◌&&◌, List, map, ℕ, suc, ◌+◌, ltb, leb, length, Ok}
 use Rattle.lists.specs.Lists.{up_to}
 use Rattle.lists.specs.Written.{over}
 use Rattle.diagram.specs.Networks.Bound.{most_variables}
 use Rattle.block.specs.Block.{byte}
 use Rattle.table.specs.declared.State.{State}
-use Rattle.table.specs.declared.Outcome.{Outcome}
-use Rattle.table.specs.declared.Answer.{Answer}
-use Rattle.table.specs.declared.Answer.TheVariants.{Done, NoSuch, ShortBuffer, NoTable}
+use Rattle.table.specs.Answer.{Answer, Outcome, outcome_of}
+use Rattle.table.specs.declared.Refusal.TheVariants.{NoSuch, ShortBuffer, NoTable}
 use Rattle.table.specs.declared.Stage.TheVariants.{Table as AtTable}
 use Rattle.table.specs.Answer.{unless, done}
 use Rattle.table.specs.Stream.{cared_bits}
@@ -43,13 +42,8 @@ loaded_state file =
 abbrev pub loaded_plane : List ℕ → ℕ → List ℕ → List ℕ
 loaded_plane file first plane = over (stream_byte file first (stream_blocks (file_inputs file) (file_outputs file))) plane_size plane
 
--- the outcome of a load; a refusal leaves the state
-unfoldable pub load_outcome : State → List ℕ → List ℕ → List ℕ → Outcome
-load_outcome s file values care =
-    record {
-      answer = load_answer file values care;
-      state = cond (done (load_answer file values care)) (loaded_state file) s;
-    }
+unfoldable pub load_outcome : List ℕ → List ℕ → List ℕ → Outcome
+load_outcome file values care = outcome_of (load_answer file values care) (loaded_state file)
 
 unfoldable pub load_values : List ℕ → List ℕ → List ℕ → List ℕ
 load_values file values care = cond (done (load_answer file values care)) (loaded_plane file 1 values) values
@@ -61,17 +55,13 @@ load_care file values care =
 
 -- swap: 21, then 9
 unfoldable pub swap_answer : State → ℕ → Answer
-swap_answer s p = unless (not (is_nothing (stage_of s))) NoTable (unless (ltb (suc p) s.n) NoSuch (Done 0))
+swap_answer s p = unless (not (is_nothing (stage_of s))) NoTable (unless (ltb (suc p) s.n) NoSuch (Ok 0))
 
 unfoldable pub swap_outcome : State → ℕ → Outcome
-swap_outcome s p =
-    record {
-      answer = swap_answer s p;
-      state = cond (done (swap_answer s p)) (reordered_state s (exchanged p s.order)) s;
-    }
+swap_outcome s p = outcome_of (swap_answer s p) (reordered_state s (exchanged p s.order))
 
 -- the number of cared bits in the stream: 10, then 21
 unfoldable pub cared_answer : State → List ℕ → Answer
 cared_answer s care =
     unless (leb plane_size (length care)) ShortBuffer
-    (unless (not (is_nothing (stage_of s))) NoTable (Done (cared_bits s.n s.m care)))
+    (unless (not (is_nothing (stage_of s))) NoTable (Ok (cared_bits s.n s.m care)))

@@ -1,14 +1,14 @@
 -- Section 1 of document 01, the table file, and section 6's sequence of refusals for it.
 -- Assumes nothing.
-use Rattle.std.specs.Prelude.{Bool, cond, ◌&&◌, List, map, ℕ, ◌+◌, ◌*◌, ◌-◌, ◌/◌, ◌%◌, ◌^◌, eqb, ltb, leb, length}
+use Rattle.std.specs.Prelude.{Bool, cond, ◌&&◌, List, map, ℕ, ◌+◌, ◌*◌, ◌-◌, ◌/◌, ◌%◌, ◌^◌, eqb, ltb, leb, length, Ok}
 use Rattle.lists.specs.Lists.{up_to}
 use Rattle.diagram.specs.Networks.Bound.{most_variables, most_outputs}
 use Rattle.diagram.specs.Orders.Order.{is_order}
 use Rattle.block.specs.Block.{block_size, content_at, content_size, content_bits, whole_blocks, byte, good_check, good_number}
 use Rattle.block.specs.Block.{unused_zero, unused_bits_zero}
-use Rattle.table.specs.declared.Answer.{Answer}
-use Rattle.table.specs.declared.Answer.TheVariants.{Done, BadLength, BadCheck, BadKind}
-use Rattle.table.specs.declared.Answer.TheVariants.{BadInputs, BadOutputs, BadOrder, BadContent}
+use Rattle.table.specs.Answer.{Answer}
+use Rattle.table.specs.declared.Refusal.TheVariants.{BadLength, BadCheck, BadKind}
+use Rattle.table.specs.declared.Refusal.TheVariants.{BadInputs, BadOutputs, BadOrder, BadContent}
 use Rattle.table.specs.Answer.{unless, unless_refused, first_refusal}
 
 -- the kind of block k, where a stream takes `blocks` blocks: 1 heading, then 2 values, then 3 care
@@ -34,12 +34,12 @@ unfoldable pub shape_answer : List ℕ → Answer
 shape_answer file =
     unless (leb (file_inputs file) most_variables) BadInputs
     (unless (leb 1 (file_outputs file) && leb (file_outputs file) most_outputs) BadOutputs
-    (unless (is_order (file_inputs file) (file_order file)) BadOrder (Done 0)))
+    (unless (is_order (file_inputs file) (file_order file)) BadOrder (Ok 0)))
 
 -- of a table's heading: '4, 5, 6, 7'. 'All other content is zero': past the order
 unfoldable pub fields_answer : List ℕ → Answer
 fields_answer file =
-    unless_refused (shape_answer file) (unless (unused_zero file 0 (6 + file_inputs file)) BadContent (Done 0))
+    unless_refused (shape_answer file) (unless (unused_zero file 0 (6 + file_inputs file)) BadContent (Ok 0))
 
 -- 'for block 0: 2, 3, 4, 5, 6, 7'
 unfoldable pub heading_answer : List ℕ → Answer
@@ -58,7 +58,7 @@ first_bit blocks k = content_bits * cond (leb k blocks) (k - 1) (k - 1 - blocks)
 
 -- of a further block: '7', every bit past the stream's last is zero
 unfoldable pub tail_answer : ℕ → ℕ → List ℕ → ℕ → Answer
-tail_answer bits blocks file k = unless (unused_bits_zero file k (bits - first_bit blocks k)) BadContent (Done 0)
+tail_answer bits blocks file k = unless (unused_bits_zero file k (bits - first_bit blocks k)) BadContent (Ok 0)
 
 -- 'each further block: 2, 3, 7'
 unfoldable pub block_answer : ℕ → ℕ → List ℕ → ℕ → Answer

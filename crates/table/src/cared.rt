@@ -6,8 +6,7 @@ ghost use Rattle.block.specs.Bits.{stream_bit};
 ghost use Rattle.table.specs.Calls.{cared_answer};
 ghost use Rattle.table.specs.Sizes.{most_bits};
 
-use crate::valid::holds_table;
-use crate::{Answer, PLANE, State};
+use crate::{Answer, PLANE, Refusal, State};
 use block::bits::word_at;
 
 // The cared bits among the 64 from bit 64 × w on, of a stream of so many bits.
@@ -29,24 +28,23 @@ fn cared_bits(care: &[u8], bits: usize) -> usize
     ensures { result ≡ sum_below (λ i. digit (stream_bit care.now i)) bits }
 {
     let mut total: usize = 0;
-    let mut w: usize = 0;
-    while 64 * w < bits {
+    for w in 0..bits.div_ceil(64) {
         total += cared_in(care, w, bits);
-        w += 1;
     }
     total
 }
 
 // How many bits of the held table's stream are cared. Refuses with 10, then 21.
+#[tactic(auto, unfolding(crate::specs::Calls::cared_answer, crate::specs::Calls::plane_size), using(crate::proofs::Held::held_small))]
 pub fn cared(state: State, care: &[u8]) -> Answer
     ensures { result ≡ cared_answer state care.now }
 {
     if care.len() < PLANE {
-        return Answer::ShortBuffer;
+        return Err(Refusal::ShortBuffer);
     }
-    if !holds_table(state) {
-        return Answer::NoTable;
+    if !state.holds_table() {
+        return Err(Refusal::NoTable);
     }
     let n = state.n;
-    Answer::Done(cared_bits(care, state.m << n))
+    Ok(cared_bits(care, state.m << n))
 }

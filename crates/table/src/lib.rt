@@ -32,10 +32,10 @@ pub struct State {
     pub stage: Stage,
 }
 
-// What a call answers; specs/Answer.antt has each one's number. `NoSuch` is 9: no such input, or p + 1 not below n.
-#[derive(Clone, Copy)]
-pub enum Answer {
-    Done(usize),
+// Why a call is refused; specs/Answer.antt has each one's number. `NoSuch` is 9: no such input, or p + 1 not below n. `TooSmall` has the
+// cells wanted.
+#[derive(Clone, Copy, Debug, PartialEq, Eq)]
+pub enum Refusal {
     BadLength,
     BadCheck,
     BadKind,
@@ -56,9 +56,15 @@ pub enum Answer {
     ShortGains,
 }
 
-// An answer, and the state after the call.
+// What a call answers: the value of a success, or why it is refused.
+pub type Answer = Result<usize, Refusal>;
+
+// What a call that is done answers, and the state after it.
 #[derive(Clone, Copy)]
-pub struct Outcome {
-    pub answer: Answer,
+pub struct Done {
+    pub value: usize,
     pub state: State,
 }
+
+// What comes of a call that changes the state: a refusal leaves the state.
+pub type Outcome = Result<Done, Refusal>;

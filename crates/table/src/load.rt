@@ -7,15 +7,15 @@ ghost use Rattle.table.specs.Calls.{plane_size, load_outcome, load_values, load_
 ghost use Rattle.table.specs.Sizes.{most_blocks};
 
 use crate::file::{blocks_for, file_answer};
-use crate::numbers::is_done;
 use crate::order::read_order;
-use crate::{Answer, Outcome, PLANE, Stage, State};
+use crate::{Done, Outcome, PLANE, Refusal, Stage, State};
 use block::bits::byte_at;
-use block::block::block_byte;
+use block::block::Block;
 use block::{BLOCK, CONTENT, CONTENT_AT};
 use diagram::VARIABLES;
 
 // Byte i of the stream that block `first` begins, or 0 past its blocks.
+#[tactic(auto, unfolding(crate::specs::File::stream_byte))]
 fn stream_byte(file: &[u8], first: usize, blocks: usize, i: usize) -> u8
     requires { (first ≤ 2 * most_blocks) × (blocks ≤ most_blocks) × (i < plane_size) }
     ensures { result ≡ stream_byte file.now first blocks i }
@@ -31,12 +31,13 @@ fn stream_byte(file: &[u8], first: usize, blocks: usize, i: usize) -> u8
 }
 
 // Writes the stream that block `first` begins, and zeros to the plane's end.
+#[tactic(auto, unfolding(crate::specs::Calls::plane_size))]
 fn write_plane(file: &[u8], first: usize, blocks: usize, plane: &mut [u8])
     requires { (first ≤ 2 * most_blocks) × (blocks ≤ most_blocks) × (plane_size ≤ length plane.old) }
     ensures { plane.new ≡ over (stream_byte file.now first blocks) plane_size plane.old }
 {
-    for i in 0..PLANE {
-        plane[i] = stream_byte(file, first, blocks, i);
+    for (i, x) in plane[..PLANE].iter_mut().enumerate() {
+        *x = stream_byte(file, first, blocks, i);
     }
 }
 
@@ -53,36 +54,28 @@ pub fn unloaded() -> State
     }
 }
 
-// Loads a table file. Refuses with 10, then by the file; a refusal leaves the state and both planes as they were.
-pub fn load(state: State, file: &[u8], values: &mut [u8], care: &mut [u8]) -> Outcome
-    ensures outcome { result ≡ load_outcome state file.now values.old care.old }
+// Loads a table file. Refuses with 10, then by the file; a refusal leaves both planes as they were.
+pub fn load(file: &[u8], values: &mut [u8], care: &mut [u8]) -> Outcome
+    ensures outcome { result ≡ load_outcome file.now values.old care.old }
     ensures values { values.new ≡ load_values file.now values.old care.old }
     ensures care { care.new ≡ load_care file.now values.old care.old }
 {
     if values.len() < PLANE {
-        return Outcome {
-            answer: Answer::ShortBuffer,
-            state,
-        };
+        return Err(Refusal::ShortBuffer);
     }
     if care.len() < PLANE {
-        return Outcome {
-            answer: Answer::ShortBuffer,
-            state,
-        };
+        return Err(Refusal::ShortBuffer);
     }
-    let answer = file_answer(file);
-    if !is_done(answer) {
-        return Outcome { answer, state };
-    }
-    let n = block_byte(file, 0, 4);
-    let m = block_byte(file, 0, 5);
+    let value = file_answer(file)?;
+    let heading = Block { file, number: 0 };
+    let n = heading.byte(4);
+    let m = heading.byte(5);
     let blocks = blocks_for(m << n);
     let order = read_order(file, n);
     write_plane(file, 1, blocks, values);
     write_plane(file, 1 + blocks, blocks, care);
-    Outcome {
-        answer,
+    Ok(Done {
+        value,
         state: State {
             n,
             m,
@@ -90,5 +83,5 @@ pub fn load(state: State, file: &[u8], values: &mut [u8], care: &mut [u8]) -> Ou
             count: 0,
             stage: Stage::Table,
         },
-    }
+    })
 }

@@ -1,51 +1,54 @@
-// Whether an answer is a success, and document 01's number and value of it.
+// Document 01's number and value of an answer.
 ghost use Rattle.std.specs.Prelude.{◌≡◌};
-ghost use Rattle.table.specs.Answer.{number, value, done};
-ghost use Rattle.table.specs.Inner.Numbered.{Numbered};
+ghost use Rattle.table.specs.Answer.{number, value, refusal_number, cells_wanted};
 
-use crate::Answer;
+use crate::{Answer, Refusal};
 
-// Whether an answer is a success.
-pub fn is_done(answer: Answer) -> bool
-    ensures { result ≡ done answer }
-{
-    match answer {
-        Answer::Done(_) => true,
-        _ => false,
+impl Refusal {
+    // Its number in the papers' tables.
+    pub fn number(self) -> usize
+        ensures { result ≡ refusal_number self }
+    {
+        match self {
+            Refusal::BadLength => 1,
+            Refusal::BadCheck => 2,
+            Refusal::BadKind => 3,
+            Refusal::BadInputs => 4,
+            Refusal::BadOutputs => 5,
+            Refusal::BadOrder => 6,
+            Refusal::BadContent => 7,
+            Refusal::NoRow => 8,
+            Refusal::NoSuch => 9,
+            Refusal::ShortBuffer => 10,
+            Refusal::NoTable => 21,
+            Refusal::NoNetwork => 22,
+            Refusal::TooSmall(_) => 23,
+            Refusal::BadCells => 24,
+            Refusal::ShortAnswers => 31,
+            Refusal::NotCanonical => 32,
+            Refusal::TooManyRecords => 33,
+            Refusal::ShortGains => 34,
+        }
+    }
+
+    // The cells wanted where the board is too small; else 0.
+    pub fn wanted(self) -> usize
+        ensures { result ≡ cells_wanted self }
+    {
+        match self {
+            Refusal::TooSmall(cells) => cells,
+            _ => 0,
+        }
     }
 }
 
-// The number of the paper's tables; 0 of a success.
+// The number of the papers' tables; 0 of a success.
 pub fn number_of(answer: Answer) -> usize
     ensures { result ≡ number answer }
 {
-    numbered(answer)
-}
-
-// The same, by a contract that tells the variant: from that the check finds each arm's proof, so a new refusal is a new arm and no more.
-fn numbered(answer: Answer) -> usize
-    ensures { Numbered answer result }
-{
     match answer {
-        Answer::Done(_) => 0,
-        Answer::BadLength => 1,
-        Answer::BadCheck => 2,
-        Answer::BadKind => 3,
-        Answer::BadInputs => 4,
-        Answer::BadOutputs => 5,
-        Answer::BadOrder => 6,
-        Answer::BadContent => 7,
-        Answer::NoRow => 8,
-        Answer::NoSuch => 9,
-        Answer::ShortBuffer => 10,
-        Answer::NoTable => 21,
-        Answer::NoNetwork => 22,
-        Answer::TooSmall(_) => 23,
-        Answer::BadCells => 24,
-        Answer::ShortAnswers => 31,
-        Answer::NotCanonical => 32,
-        Answer::TooManyRecords => 33,
-        Answer::ShortGains => 34,
+        Ok(_) => 0,
+        Err(refusal) => refusal.number(),
     }
 }
 
@@ -54,8 +57,7 @@ pub fn value_of(answer: Answer) -> usize
     ensures { result ≡ value answer }
 {
     match answer {
-        Answer::Done(found) => found,
-        Answer::TooSmall(wanted) => wanted,
-        _ => 0,
+        Ok(found) => found,
+        Err(refusal) => refusal.wanted(),
     }
 }

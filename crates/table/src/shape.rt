@@ -2,28 +2,26 @@
 ghost use Rattle.std.specs.Prelude.{◌≡◌};
 ghost use Rattle.table.specs.File.{shape_answer};
 
-use crate::Answer;
 use crate::order::{is_order, read_order};
-use block::block::block_byte;
+use crate::{Answer, Refusal};
+use block::block::Block;
 use diagram::{OUTPUTS, VARIABLES};
 
 // The heading's n, m and order: 4, 5, 6, or 0.
+#[tactic(auto, unfolding(crate::specs::File::shape_answer), using(crate::proofs::Files::Heading::order_read))]
 pub fn shape_answer(file: &[u8]) -> Answer
     ensures { result ≡ shape_answer file.now }
 {
-    let n = block_byte(file, 0, 4);
+    let heading = Block { file, number: 0 };
+    let n = heading.byte(4);
     if VARIABLES < n {
-        return Answer::BadInputs;
+        return Err(Refusal::BadInputs);
     }
-    let m = block_byte(file, 0, 5);
-    if m == 0 {
-        return Answer::BadOutputs;
-    }
-    if OUTPUTS < m {
-        return Answer::BadOutputs;
+    if !(1..=OUTPUTS).contains(&heading.byte(5)) {
+        return Err(Refusal::BadOutputs);
     }
     if !is_order(read_order(file, n), n) {
-        return Answer::BadOrder;
+        return Err(Refusal::BadOrder);
     }
-    Answer::Done(0)
+    Ok(0)
 }

@@ -1,10 +1,13 @@
 -- The lines, written part by part.
 -- Assumes nothing.
-use mathlib.Core.Path.{◌≡◌, sym, ap, ◌∙◌}
-use mathlib.Core.List.{List}
+use mathlib.Core.Path.{◌≡◌, refl, sym, ap, ap₂, ◌∙◌}
+use mathlib.Core.List.{List, ◌++◌}
 use mathlib.Core.Bool.{Bool, true, false}
-use Prim.Native.Nat.{ℕ, ◌+◌, ◌*◌, ◌/◌, ◌≤◌, min}
-use lib.ListN.{length, get_or}
+use Prim.Native.Nat.{ℕ, zero, suc, ◌+◌, ◌*◌, ◌/◌, ◌≤◌, ◌<◌, min}
+use native.Mathlib.Omega.{arith}
+use lib.ListN.{length, get_or, take, drop}
+use Rattle.std.specs.Simd.{first_chunks}
+use lib.Seq.{length-take-le, get_or-take, get_or-drop}
 use Rattle.diagram.specs.Networks.Bound.{most_variables}
 use Rattle.table.specs.declared.State.{State}
 use Rattle.table.specs.State.{stage_of, is_network}
@@ -30,10 +33,28 @@ unfolding node_text
 written-node cells p a b c f g h u v w e =
     written_then (spaced-as f u) (written_then (spaced-as g v) (written_then (spaced-as h w) e))
 
-pub written-cell : {l m n o : List ℕ} {i j k q : ℕ} (cells : List ℕ) (p : ℕ) → Written l m i j cell-keyword
-    → Written m n j k (spaced (p + 1)) → Written n o k q (node_text cells p) → Written l o i q (cell_line cells p)
+-- three numbers of a list of cells, read one after the other
+
+chunk-at : (k i j : ℕ) (cells d : List ℕ) → i < k → j < 3 → get_or (get_or (first_chunks 3 k cells) i d) j 0 ≡ get_or cells (3 * i + j) 0
+chunk-at zero i j cells d h l = absurd (omega arith)
+chunk-at (suc k) zero j cells d h l = get_or-take 3 cells j 0 l ∙ ap (λ (n : ℕ). get_or cells n 0) (omega arith)
+chunk-at (suc k) (suc i) j cells d h l =
+    chunk-at k i j (drop 3 cells) d (omega arith) l ∙ get_or-drop 3 cells (3 * i + j) 0 ∙ ap (λ (n : ℕ). get_or cells n 0) (omega arith)
+
+chunk-text : (k i : ℕ) (cells d : List ℕ) → i < k → node_text (get_or (first_chunks 3 k cells) i d) 0 ≡ node_text cells i
+unfolding node_text
+chunk-text k i cells d h =
+    let start : get_or cells (3 * i + 0) 0 ≡ get_or cells (3 * i) 0 = ap (λ (n : ℕ). get_or cells n 0) (omega arith) in
+    ap₂ (λ (x : ℕ) (rest : List ℕ). spaced x ++ rest) (chunk-at k i 0 cells d h (omega arith) ∙ start)
+    (ap₂ (λ (x y : ℕ). spaced x ++ (spaced y ++ newline)) (chunk-at k i 1 cells d h (omega arith)) (chunk-at k i 2 cells d h (omega arith)))
+
+-- the line of a cell that is read as three numbers, of the first m
+pub cell-read : (k m i : ℕ) (cells d : List ℕ) → i < k → i < m
+    → cell-keyword ++ (spaced (i + 1) ++ node_text (get_or (take m (first_chunks 3 k cells)) i d) 0) ≡ cell_line cells i
 unfolding cell_line
-written-cell cells p u v w = written_then u (written_then v w)
+cell-read k m i cells d h l =
+    ap (λ (text : List ℕ). cell-keyword ++ (spaced (i + 1) ++ text))
+    (ap (λ (cell : List ℕ). node_text cell 0) (get_or-take m (first_chunks 3 k cells) i d l) ∙ chunk-text k i cells d h)
 
 pub written-root : {l m n o z : List ℕ} {i j k q t : ℕ} (roots : List ℕ) (p a : ℕ) → a ≡ get_or roots p 0
     → Written l m i j root-keyword → Written m n j k (spaced p) → Written n o k q (spaced a) → Written o z q t newline
@@ -41,11 +62,24 @@ pub written-root : {l m n o z : List ℕ} {i j k q t : ℕ} (roots : List ℕ) (
 unfolding root_line
 written-root roots p a f u v w e = written_then u (written_then v (written_then (spaced-as f w) e))
 
-pub written-order : {l m n o : List ℕ} {i j k q : ℕ} (s : State) (a : ℕ) → a ≡ min s.n most_variables → Written l m i j order-keyword
-    → Written m n j k (in_turn (λ p. spaced (get_or s.order p 0)) a) → Written n o k q newline → Written l o i q (state_order s)
+-- the entries of an order are its first ones
+first-entries : (order : List ℕ) (n k : ℕ) → k ≤ n
+    → in_turn (λ p. spaced (get_or (take n order) p 0)) k ≡ in_turn (λ p. spaced (get_or order p 0)) k
+first-entries order n zero h = refl
+first-entries order n (suc k) h =
+    ap₂ ◌++◌ (first-entries order n k (omega arith)) (ap spaced (get_or-take n order k 0 (omega arith)))
+
+pub written-order : {l m n o : List ℕ} {i j k q : ℕ} (s : State) (a : ℕ) → a ≡ min s.n most_variables → a ≤ length s.order
+    → Written l m i j order-keyword → Written m n j k (in_turn (λ p. spaced (get_or (take a s.order) p 0)) (length (take a s.order)))
+    → Written n o k q newline → Written l o i q (state_order s)
 unfolding state_order order_line
-written-order s a e u v w =
-    written_then u (written_then (written_as (ap (in_turn (λ p. spaced (get_or s.order p 0))) e) v) w)
+written-order s a e h u v w =
+    let long : length (take a s.order) ≡ a = length-take-le a s.order h in
+    let same : in_turn (λ p. spaced (get_or (take a s.order) p 0)) (length (take a s.order))
+    ≡ in_turn (λ p. spaced (get_or s.order p 0)) (min s.n most_variables) =
+    ap (in_turn (λ p. spaced (get_or (take a s.order) p 0))) long ∙ first-entries s.order a a (omega arith)
+    ∙ ap (in_turn (λ p. spaced (get_or s.order p 0))) e in
+    written_then u (written_then (written_as same v) w)
 
 pub written-unheld : {l : List ℕ} {i : ℕ} (s : State) (roots cells : List ℕ) (b : Bool) → b ≡ is_network (stage_of s) → b ≡ false
     → i ≤ length l → Written l l i i (held_lines s roots cells)

@@ -1,15 +1,16 @@
 -- Texts written one after the other are the text of both.
 -- Assumes nothing.
 use mathlib.Core.Path.{◌≡◌, refl, sym, ap, ◌∙◌, subst}
-use mathlib.Core.List.{List, [], ◌∷◌, ◌++◌}
-use Prim.Native.Nat.{ℕ, suc, ◌+◌, ◌≤◌, ◌<◌, min}
+use mathlib.Core.List.{List, [], ◌∷◌, ◌++◌, append_assoc}
+use Prim.Native.Nat.{ℕ, suc, ◌+◌, ◌-◌, ◌≤◌, min}
 use native.Mathlib.Nat.{add-zero}
 use native.Mathlib.Numerals.{add-one}
 use native.Mathlib.Omega.{arith}
 use lib.Dec.{ltb, ltb→lt, nltb→le}
-use lib.ListN.{length, set, length-append, take, get_or}
-use lib.Seq.{sets, set_out, length-sets, take-suc, take_all}
-use Rattle.lists.proofs.Bools.{split}
+use lib.ListN.{length, set, length-append, take, drop, take-append-drop, drop_of_length-le}
+use lib.Seq.{sets, set_out, length-sets, length-take-le, drop-drop}
+use Rattle.std.proofs.lemmas.List.Edits.{sets-eq}
+use Rattle.lists.proofs.Bools.{split, to-T, to-not}
 use Rattle.text.specs.Text.{in_turn}
 use Rattle.text.specs.Written.{Written}
 
@@ -23,20 +24,30 @@ sets-past : {A : Type 0} (l : List A) (i : ℕ) (xs : List A) → length l ≤ i
 sets-past l i [] h = refl
 sets-past l i (x ∷ xs) h = ap (λ (k : List _). sets k (suc i) xs) (set_out l i x h) ∙ sets-past l (suc i) xs (omega (arith, h))
 
--- an offset in the buffer
-pub written-room : {l m : List ℕ} {i j : ℕ} {xs : List ℕ} → Written l m i j xs → j ≤ length m
-written-room {l} {m} {i} {j} {xs} w =
-    let e : length m ≡ length l = ap length w.content ∙ length-sets l i xs in
-    omega (arith, e, w.offset)
-
+-- nothing written
 pub written-nothing : {l : List ℕ} {i : ℕ} → i ≤ length l → Written l l i i []
 written-nothing h = record { content = refl; offset = omega (arith, h) }
 
-pub written_byte : {l : List ℕ} {i b : ℕ} → i < length l → Written l (set l i b) i (i + 1) (b ∷ [])
-written_byte h = record { content = refl; offset = omega (arith, h) }
-
-pub written-past : {l : List ℕ} {i b : ℕ} → i ≤ length l → length l ≤ i → Written l l i i (b ∷ [])
-written-past {l} {i} {b} h k = record { content = sym (set_out l i b k); offset = omega (arith, h, k) }
+-- as much of a text as there is room for, copied
+pub written-copied : {l m : List ℕ} {i : ℕ} (text : List ℕ) (n : ℕ) → i ≤ length l → n ≡ min (length text) (length l - i)
+    → m ≡ take i l ++ (take n text ++ drop n (drop i l)) → Written l m i (i + n) text
+written-copied {l} {m} {i} text n h e q =
+    let long : length (take n text) ≡ n = length-take-le n text (omega (arith, e)) in
+    let front : sets l i (take n text) ≡ m =
+    sets-eq (take n text) l i (omega (arith, e, h, long))
+    ∙ append_assoc (take i l) (take n text) (drop (i + length (take n text)) l)
+    ∙ ap (λ (k : ℕ). take i l ++ (take n text ++ drop (i + k) l)) long
+    ∙ ap (λ (rest : List ℕ). take i l ++ (take n text ++ rest)) (sym (drop-drop n i l)) ∙ sym q in
+    let behind : sets (sets l i (take n text)) (i + length (take n text)) (drop n text) ≡ sets l i (take n text) =
+    split (ltb n (length text))
+    (λ t. let past : length l ≤ i + length (take n text) = omega (arith, e, h, long, ltb→lt n (length text) (to-T t)) in
+    sets-past (sets l i (take n text)) (i + length (take n text)) (drop n text) (omega (arith, past, length-sets l i (take n text))))
+    (λ t. ap (sets (sets l i (take n text)) (i + length (take n text))) (drop_of_length-le text {i = n} (nltb→le n (length text) (to-not t)))) in
+    record {
+      content =
+          sym front ∙ sym behind ∙ sets-append l i (take n text) (drop n text) ∙ ap (sets l i) (take-append-drop n text);
+      offset = omega (arith, e, h);
+    }
 
 -- the second text lies behind the first, or both past the end
 sets-clipped : (l xs ys : List ℕ) (i j : ℕ) → j ≡ min (i + length xs) (length l) → sets (sets l i xs) j ys ≡ sets l i (xs ++ ys)
@@ -59,30 +70,7 @@ written_then {l} {m} {n} {i} {j} {k} {xs} {ys} v w =
 pub written_as : {l m : List ℕ} {i j : ℕ} {xs ys : List ℕ} → xs ≡ ys → Written l m i j xs → Written l m i j ys
 written_as {l} {m} {i} {j} e w = subst (λ (t : List ℕ). Written l m i j t) e w
 
--- a word, one byte more, and the whole word
-pub written-keyword : {l m n : List ℕ} {i j k : ℕ} (w : List ℕ) (p : ℕ) → p < length w → Written l m i j (take p w)
-    → Written m n j k (get_or w p 0 ∷ []) → Written l n i k (take (p + 1) w)
-written-keyword w p h u v =
-    written_as (sym (take-suc w p 0 h) ∙ ap (λ (q : ℕ). take q w) (sym (add-one p))) (written_then u v)
-
-pub written-whole : {l m : List ℕ} {i j : ℕ} (w : List ℕ) (p : ℕ) → p ≤ length w → length w ≤ p → Written l m i j (take p w)
-    → Written l m i j w
-written-whole w p h k u = written_as (take_all p w k) u
-
 -- texts of a run, one more
 pub written-more : {l m n : List ℕ} {i j k : ℕ} (f : ℕ → List ℕ) (p : ℕ) → Written l m i j (in_turn f p) → Written m n j k (f p)
     → Written l n i k (in_turn f (p + 1))
 written-more f p u v = written_as (ap (in_turn f) (sym (add-one p))) (written_then u v)
-
--- the run of as many texts as are meant
-pub written-in-turn : {l m : List ℕ} {i j : ℕ} (f : ℕ → List ℕ) (p q : ℕ) → p ≤ q → q ≤ p → Written l m i j (in_turn f p)
-    → Written l m i j (in_turn f q)
-written-in-turn f p q h k w = let e : p ≡ q = omega arith in written_as (ap (in_turn f) e) w
-
-pub written-first : {l m : List ℕ} {i j : ℕ} (f : ℕ → List ℕ) (p a b : ℕ) → p ≤ a → a ≤ p → p ≤ b → Written l m i j (in_turn f p)
-    → Written l m i j (in_turn f (min a b))
-written-first f p a b g h k w = written-in-turn f p (min a b) (omega arith) (omega arith) w
-
-pub written-second : {l m : List ℕ} {i j : ℕ} (f : ℕ → List ℕ) (p a b : ℕ) → p ≤ a → p ≤ b → b ≤ p → Written l m i j (in_turn f p)
-    → Written l m i j (in_turn f (min a b))
-written-second f p a b g h k w = written-in-turn f p (min a b) (omega arith) (omega arith) w

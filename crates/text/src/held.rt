@@ -1,33 +1,32 @@
 // The text of a whole network.
-ghost use Rattle.std.specs.Prelude.{◌/◌, ◌≤◌, ◌<◌, min, length};
-ghost use Rattle.text.specs.Text.{in_turn, node_text, cell_line, root_line, held_lines, total_lines, heading_lines, network_text};
+ghost use Rattle.std.specs.Prelude.{◌++◌, ◌/◌, ◌≤◌, min, length};
+ghost use Rattle.text.specs.Text.{in_turn, spaced, cell-keyword, node_text, cell_line, root_line, held_lines, total_lines, heading_lines, network_text};
 ghost use Rattle.text.specs.Written.{Written};
 
 use crate::line::put_order;
-use crate::put::{NEWLINE, put_byte, put_keyword, put_line, put_number};
+use crate::put::{put, put_line, put_number};
 use block::numbers::lent_number;
 use table::State;
-use table::valid::holds_network;
 
 // The numbers of one cell, and the line's end.
-fn put_node(out: &mut [u8], at: usize, cells: &[u16], i: usize) -> usize
-    requires { (at ≤ length out.old) × (i < length cells.now) }
-    ensures { Written out.old out.new at result (node_text cells.now i) }
+fn put_node(out: &mut [u8], at: usize, cell: &[u16; 3]) -> usize
+    requires { at ≤ length out.old }
+    ensures { Written out.old out.new at result (node_text cell.now 0) }
 {
-    let low = put_number(out, at, lent_number(cells, 3 * i));
-    let high = put_number(out, low, lent_number(cells, 3 * i + 1));
-    let end = put_number(out, high, lent_number(cells, 3 * i + 2));
-    put_byte(out, end, NEWLINE)
+    let low = put_number(out, at, cell[0] as usize);
+    let high = put_number(out, low, cell[1] as usize);
+    let end = put_number(out, high, cell[2] as usize);
+    put(out, end, b"\n")
 }
 
 // The line of one cell.
-fn put_cell(out: &mut [u8], at: usize, cells: &[u16], i: usize) -> usize
-    requires { (at ≤ length out.old) × (i < length cells.now) }
-    ensures { Written out.old out.new at result (cell_line cells.now i) }
+fn put_cell(out: &mut [u8], at: usize, number: usize, cell: &[u16; 3]) -> usize
+    requires { at ≤ length out.old }
+    ensures { Written out.old out.new at result (cell-keyword ++ (spaced number ++ node_text cell.now 0)) }
 {
-    let number = put_keyword(out, at, b"cell");
-    let node = put_number(out, number, i + 1);
-    put_node(out, node, cells, i)
+    let word = put(out, at, b"cell");
+    let node = put_number(out, word, number);
+    put_node(out, node, cell)
 }
 
 // The lines of the first cells, as many as are counted and lent.
@@ -36,12 +35,11 @@ fn put_cells(out: &mut [u8], at: usize, count: usize, cells: &[u16]) -> usize
     ensures { Written out.old out.new at result
         (in_turn (cell_line cells.now) (min count (length cells.now / 3))) }
 {
+    let (nodes, _) = cells.as_chunks::<3>();
+    let counted = &nodes[..count.min(nodes.len())];
     let mut next = at;
-    for i in 0..count {
-        if cells.len() / 3 <= i {
-            return next;
-        }
-        next = put_cell(out, next, cells, i);
+    for (i, cell) in counted.iter().enumerate() {
+        next = put_cell(out, next, i + 1, cell);
     }
     next
 }
@@ -51,10 +49,10 @@ fn put_root(out: &mut [u8], at: usize, roots: &[u16], j: usize) -> usize
     requires { at ≤ length out.old }
     ensures { Written out.old out.new at result (root_line roots.now j) }
 {
-    let output = put_keyword(out, at, b"root");
+    let output = put(out, at, b"root");
     let root = put_number(out, output, j);
     let end = put_number(out, root, lent_number(roots, j));
-    put_byte(out, end, NEWLINE)
+    put(out, end, b"\n")
 }
 
 // The lines of the first m roots.
@@ -74,7 +72,7 @@ fn put_held(out: &mut [u8], at: usize, state: State, roots: &[u16], cells: &[u16
     requires { at ≤ length out.old }
     ensures { Written out.old out.new at result (held_lines state roots.now cells.now) }
 {
-    if holds_network(state) {
+    if state.holds_network() {
         let first = put_cells(out, at, state.count, cells);
         return put_roots(out, first, state.m, roots);
     }

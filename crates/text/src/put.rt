@@ -1,38 +1,22 @@
-// Bytes, words and decimal numbers, written at an offset of a lent buffer; each answers the offset behind.
-ghost use Rattle.std.specs.Prelude.{[], ◌∷◌, ◌≤◌, length};
+// Text and decimal numbers, written at an offset of a lent buffer; each answers the offset behind.
+//
+// They are written by hand: std's `write!` tells what was written only where it ends in `Ok`, and its writer over a `&mut [u8]` tells no byte.
+// A struct of buffer and offset is no plainer: every contract would say that it keeps its buffer, and that the offset lies in it.
+ghost use Rattle.std.specs.Prelude.{◌≤◌, length};
 ghost use Rattle.text.specs.Text.{digits, spaced, line};
 ghost use Rattle.text.specs.Written.{Written};
-
-// The bytes of a space and of a line's end.
-const SPACE: u8 = 32;
-
-pub(crate) const NEWLINE: u8 = 10;
 
 // The most digits before a number's last; specs/Text.antt's `decimal` has the definition.
 const MORE_DIGITS: usize = 19;
 
-// One byte.
-pub(crate) fn put_byte(out: &mut [u8], at: usize, byte: u8) -> usize
+// A text, as far as there is room.
+pub(crate) fn put(out: &mut [u8], at: usize, text: &[u8]) -> usize
     requires { at ≤ length out.old }
-    ensures { Written out.old out.new at result (byte ∷ []) }
+    ensures { Written out.old out.new at result text.now }
 {
-    if at < out.len() {
-        out[at] = byte;
-        return at + 1;
-    }
-    at
-}
-
-// The bytes of a word.
-pub(crate) fn put_keyword(out: &mut [u8], at: usize, word: &[u8]) -> usize
-    requires { at ≤ length out.old }
-    ensures { Written out.old out.new at result word.now }
-{
-    let mut next = at;
-    for i in 0..word.len() {
-        next = put_byte(out, next, word[i]);
-    }
-    next
+    let end = at + text.len().min(out.len() - at);
+    out[at..end].copy_from_slice(&text[..end - at]);
+    end
 }
 
 // A number's digits, at most one more than `left`.
@@ -40,15 +24,12 @@ fn put_digits(out: &mut [u8], at: usize, x: usize, left: usize) -> usize
     requires { at ≤ length out.old }
     ensures { Written out.old out.new at result (digits left x) }
 {
-    let digit = 48 + (x % 10) as u8;
-    if x < 10 {
-        return put_byte(out, at, digit);
-    }
-    if left == 0 {
-        return put_byte(out, at, digit);
+    let digit = [b'0' + (x % 10) as u8];
+    if x < 10 || left == 0 {
+        return put(out, at, &digit);
     }
     let next = put_digits(out, at, x / 10, left - 1);
-    put_byte(out, next, digit)
+    put(out, next, &digit)
 }
 
 // A number in decimal, with a space before it.
@@ -56,7 +37,7 @@ pub(crate) fn put_number(out: &mut [u8], at: usize, x: usize) -> usize
     requires { at ≤ length out.old }
     ensures { Written out.old out.new at result (spaced x) }
 {
-    let next = put_byte(out, at, SPACE);
+    let next = put(out, at, b" ");
     put_digits(out, next, x, MORE_DIGITS)
 }
 
@@ -65,7 +46,7 @@ pub(crate) fn put_line(out: &mut [u8], at: usize, word: &[u8], x: usize) -> usiz
     requires { at ≤ length out.old }
     ensures { Written out.old out.new at result (line word.now x) }
 {
-    let number = put_keyword(out, at, word);
+    let number = put(out, at, word);
     let end = put_number(out, number, x);
-    put_byte(out, end, NEWLINE)
+    put(out, end, b"\n")
 }

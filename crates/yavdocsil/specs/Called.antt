@@ -1,11 +1,11 @@
 -- A call on a state in words: its answer, and what it leaves. The calls themselves are defined in the crates below.
 -- Assumes nothing.
-use Rattle.std.specs.Prelude.{Bool, cond, List, ℕ, leb, length}
-use Rattle.table.specs.declared.Answer.{Answer}
-use Rattle.table.specs.declared.Answer.TheVariants.{Done, ShortBuffer}
-use Rattle.table.specs.declared.Outcome.{Outcome}
+use Rattle.std.specs.Prelude.{Bool, cond, List, ℕ, leb, length, Ok, Err}
+use Rattle.table.specs.Answer.{Answer}
+use Rattle.table.specs.declared.Refusal.TheVariants.{ShortBuffer}
+use Rattle.table.specs.declared.Done.{Done}
 use Rattle.table.specs.declared.State.{State}
-use Rattle.table.specs.Answer.{done, unless}
+use Rattle.table.specs.Answer.{Outcome, unless}
 use Rattle.yavdocsil.specs.Words.{state_words, state_from, with_state, answer_word}
 
 -- there are enough words for a state
@@ -22,8 +22,9 @@ leaves words call buffer = cond (is_state words) (call (state_from words)) buffe
 
 -- 'A refusal writes no word of the state. A success of a call that changes the state writes all listed words'
 unfoldable pub words_after : Outcome → List ℕ → List ℕ
-words_after outcome words = cond (done outcome.answer) (with_state outcome.state words) words
+words_after (Ok done) words = with_state done.state words
+words_after (Err refusal) words = words
 
--- a success as an outcome, read off the word answer_to, which is below 2³², and the words left
-abbrev pub success : ℕ → List ℕ → Outcome
-success word words = record { answer = Done word; state = state_from words }
+-- what a success answers and leaves, read off the word answer_to, which is below 2³², and the words left
+abbrev pub success : ℕ → List ℕ → Done
+success word words = record { value = word; state = state_from words }

@@ -1,6 +1,6 @@
 // An answer as one word, and an outcome as an answer and the state's words.
-ghost use Rattle.std.specs.Prelude.{◌≡◌, ◌<◌, ◌≤◌, length};
-ghost use Rattle.table.specs.Answer.{value};
+ghost use Rattle.std.specs.Prelude.{◌≡◌, ◌<◌, ◌≤◌, length, Ok};
+ghost use Rattle.table.specs.Answer.{value, answer_of};
 ghost use Rattle.yavdocsil.specs.Words.{state_words, value_limit, answer_word};
 ghost use Rattle.yavdocsil.specs.Called.{words_after, success};
 
@@ -21,16 +21,16 @@ pub(crate) fn answer_word(answer: Answer) -> u64
 
 // Answers an outcome; the state of a success is written into the words, so the outcome can be read off both.
 pub(crate) fn settle(outcome: Outcome, words: &mut [u64]) -> u64
-    requires { (state_words ≤ length words.old) × (value outcome.answer < value_limit) }
-    ensures answer { result ≡ answer_word outcome.answer }
+    requires { (state_words ≤ length words.old) × (value (answer_of outcome) < value_limit) }
+    ensures answer { result ≡ answer_word (answer_of outcome) }
     ensures words { words.new ≡ words_after outcome words.old }
-    ensures success { result < value_limit → success result words.new ≡ outcome }
+    ensures success { result < value_limit → Ok (success result words.new) ≡ outcome }
 {
-    let answer = outcome.answer;
-    if number_of(answer) != 0 {
-        return answer_word(answer);
+    match outcome {
+        Ok(done) => {
+            write_state(done.state, words);
+            answer_word(Ok(done.value))
+        }
+        Err(refusal) => answer_word(Err(refusal)),
     }
-    let state = outcome.state;
-    write_state(state, words);
-    answer_word(answer)
 }

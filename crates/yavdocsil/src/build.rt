@@ -6,13 +6,14 @@ ghost use Rattle.fill.specs.Calls.{held_table, count_answer, count_work};
 ghost use Rattle.lent.specs.Lent.{lent_diagram};
 ghost use Rattle.network.specs.Build.{capacity, reaches_board, build_outcome, build_roots, build_cells, build_work, Built};
 ghost use Rattle.yavdocsil.specs.Words.{value_limit, state_from};
+ghost use Rattle.table.specs.Answer.{answer_of};
 ghost use Rattle.yavdocsil.specs.Called.{is_state, answer_to, leaves, words_after, success};
 
 use crate::answer::{answer_word, settle};
 use crate::state::{WORDS, read_state};
 use fill::count;
 use network::build::build;
-use table::Answer;
+use table::Refusal;
 
 // The nodes that the held table's network takes.
 #[unsafe(no_mangle)]
@@ -23,7 +24,7 @@ pub extern "C" fn yav_count(words: &[u64], values: &[u8], care: &[u8], work: &mu
         work.old }
 {
     if words.len() < WORDS {
-        return answer_word(Answer::ShortBuffer);
+        return answer_word(Err(Refusal::ShortBuffer));
     }
     answer_word(count(read_state(words), values, care, work))
 }
@@ -39,8 +40,7 @@ pub extern "C" fn yav_build(
     cells: &mut [u16],
 ) -> u64
     ensures answer { result ≡ answer_to words.old
-        (λ s. (build_outcome s values.now care.now work.old roots.old cells.old
-        ).answer) }
+        (λ s. answer_of (build_outcome s values.now care.now work.old roots.old cells.old)) }
     ensures words { words.new
         ≡ leaves words.old
         (λ s. words_after
@@ -70,7 +70,7 @@ pub extern "C" fn yav_build(
         (order_of (state_from words.old)) (capacity cells.old) }
 {
     if words.len() < WORDS {
-        return answer_word(Answer::ShortBuffer);
+        return answer_word(Err(Refusal::ShortBuffer));
     }
     let outcome = build(read_state(words), values, care, work, roots, cells);
     settle(outcome, words)

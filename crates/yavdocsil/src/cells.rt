@@ -5,13 +5,14 @@ ghost use Rattle.network.specs.Build.{capacity};
 ghost use Rattle.network_file.specs.Write.{write_answer, write_work, written_file};
 ghost use Rattle.network_file.specs.Read.{read_outcome, read_values, read_care, read_work, read_roots, read_cells, Given};
 ghost use Rattle.yavdocsil.specs.Words.{value_limit, state_from};
+ghost use Rattle.table.specs.Answer.{answer_of};
 ghost use Rattle.yavdocsil.specs.Called.{answer_to, leaves, words_after};
 
 use crate::answer::{answer_word, settle};
 use crate::state::{WORDS, read_state};
 use network_file::read::read_cells;
 use network_file::write::write_cells;
-use table::Answer;
+use table::Refusal;
 
 // Writes the network file of the held network.
 #[unsafe(no_mangle)]
@@ -34,7 +35,7 @@ pub extern "C" fn yav_write_cells(
         file.old }
 {
     if words.len() < WORDS {
-        return answer_word(Answer::ShortBuffer);
+        return answer_word(Err(Refusal::ShortBuffer));
     }
     answer_word(write_cells(read_state(words), roots, cells, work, file))
 }
@@ -52,12 +53,12 @@ pub extern "C" fn yav_read_cells(
     cells: &mut [u16],
 ) -> u64
     ensures answer { result ≡ answer_to words.old
-        (λ s. (read_outcome s file.now values.old care.old work.old roots.old
-        cells.old).answer) }
+        (λ _. answer_of (read_outcome file.now values.old care.old work.old roots.old
+        cells.old)) }
     ensures words { words.new
         ≡ leaves words.old
-        (λ s. words_after
-        (read_outcome s file.now values.old care.old work.old roots.old
+        (λ _. words_after
+        (read_outcome file.now values.old care.old work.old roots.old
         cells.old)
         words.old)
         words.old }
@@ -91,8 +92,8 @@ pub extern "C" fn yav_read_cells(
         (capacity cells.new) }
 {
     if words.len() < WORDS {
-        return answer_word(Answer::ShortBuffer);
+        return answer_word(Err(Refusal::ShortBuffer));
     }
-    let outcome = read_cells(read_state(words), file, values, care, work, roots, cells);
+    let outcome = read_cells(file, values, care, work, roots, cells);
     settle(outcome, words)
 }

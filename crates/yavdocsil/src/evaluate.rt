@@ -9,7 +9,7 @@ use crate::answer::answer_word;
 use crate::state::{WORDS, read_state};
 use lent::evaluate::evaluate;
 use lent::rows::evaluate_rows;
-use table::Answer;
+use table::Refusal;
 
 // The outputs that the lent network gives at a row, bit j output j.
 #[unsafe(no_mangle)]
@@ -17,7 +17,7 @@ pub extern "C" fn yav_evaluate(words: &[u64], row: u64, roots: &[u16], cells: &[
     ensures { result ≡ answer_to words.now (λ s. evaluate_answer s row roots.now cells.now) }
 {
     if words.len() < WORDS {
-        return answer_word(Answer::ShortBuffer);
+        return answer_word(Err(Refusal::ShortBuffer));
     }
     answer_word(evaluate(read_state(words), row as usize, roots, cells))
 }
@@ -42,7 +42,7 @@ pub extern "C" fn yav_evaluate_rows(
         answers.new }
 {
     if words.len() < WORDS {
-        return answer_word(Answer::ShortBuffer);
+        return answer_word(Err(Refusal::ShortBuffer));
     }
     answer_word(evaluate_rows(read_state(words), rows, answers, roots, cells))
 }

@@ -1,11 +1,12 @@
 // Loading a table, and its cared bits, for other languages.
 ghost use Rattle.std.specs.Prelude.{◌≡◌};
 ghost use Rattle.table.specs.Calls.{load_outcome, load_values, load_care, cared_answer};
+ghost use Rattle.table.specs.Answer.{answer_of};
 ghost use Rattle.yavdocsil.specs.Called.{answer_to, leaves, words_after};
 
 use crate::answer::{answer_word, settle};
 use crate::state::{WORDS, read_state};
-use table::Answer;
+use table::Refusal;
 use table::cared::cared;
 use table::load::load;
 
@@ -18,10 +19,10 @@ pub extern "C" fn yav_load(
     care: &mut [u8],
 ) -> u64
     ensures answer { result ≡ answer_to words.old
-        (λ s. (load_outcome s file.now values.old care.old).answer) }
+        (λ _. answer_of (load_outcome file.now values.old care.old)) }
     ensures words { words.new
         ≡ leaves words.old
-        (λ s. words_after (load_outcome s file.now values.old care.old) words.old)
+        (λ _. words_after (load_outcome file.now values.old care.old) words.old)
         words.old }
     ensures values { values.new
         ≡ leaves words.old (λ _. load_values file.now values.old care.old)
@@ -31,9 +32,9 @@ pub extern "C" fn yav_load(
         care.old }
 {
     if words.len() < WORDS {
-        return answer_word(Answer::ShortBuffer);
+        return answer_word(Err(Refusal::ShortBuffer));
     }
-    let outcome = load(read_state(words), file, values, care);
+    let outcome = load(file, values, care);
     settle(outcome, words)
 }
 
@@ -43,7 +44,7 @@ pub extern "C" fn yav_cared(words: &[u64], care: &[u8]) -> u64
     ensures { result ≡ answer_to words.now (λ s. cared_answer s care.now) }
 {
     if words.len() < WORDS {
-        return answer_word(Answer::ShortBuffer);
+        return answer_word(Err(Refusal::ShortBuffer));
     }
     answer_word(cared(read_state(words), care))
 }

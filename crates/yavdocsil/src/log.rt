@@ -1,12 +1,13 @@
 // Logging the rows that were seen, for other languages.
 ghost use Rattle.std.specs.Prelude.{◌≡◌};
 ghost use Rattle.rowlog.specs.Log.{log_outcome, log_counts, log_care};
+ghost use Rattle.table.specs.Answer.{answer_of};
 ghost use Rattle.yavdocsil.specs.Called.{answer_to, leaves, words_after};
 
 use crate::answer::{answer_word, settle};
 use crate::state::{WORDS, read_state};
 use rowlog::log::log_rows;
-use table::Answer;
+use table::Refusal;
 
 // Counts each row of a list, and cares for every row counted `least` times or more.
 #[unsafe(no_mangle)]
@@ -18,7 +19,7 @@ pub extern "C" fn yav_log_rows(
     care: &mut [u8],
 ) -> u64
     ensures answer { result ≡ answer_to words.old
-        (λ s. (log_outcome s rows.now counts.old care.old).answer) }
+        (λ s. answer_of (log_outcome s rows.now counts.old care.old)) }
     ensures words { words.new
         ≡ leaves words.old
         (λ s. words_after (log_outcome s rows.now counts.old care.old) words.old)
@@ -31,7 +32,7 @@ pub extern "C" fn yav_log_rows(
         care.old }
 {
     if words.len() < WORDS {
-        return answer_word(Answer::ShortBuffer);
+        return answer_word(Err(Refusal::ShortBuffer));
     }
     let outcome = log_rows(read_state(words), rows, least, counts, care);
     settle(outcome, words)

@@ -7,7 +7,7 @@ ghost use Rattle.yavdocsil.specs.Called.{answer_to, leaves};
 use crate::answer::answer_word;
 use crate::state::{WORDS, read_state};
 use sift::moves::moves;
-use table::Answer;
+use table::Refusal;
 
 // Reports the nodes with each variable at each level minus the nodes now. What `sift::moves` owes of its list, this owes of it too.
 #[unsafe(no_mangle)]
@@ -33,7 +33,7 @@ pub extern "C" fn yav_moves(
         gains.new }
 {
     if words.len() < WORDS {
-        return answer_word(Answer::ShortBuffer);
+        return answer_word(Err(Refusal::ShortBuffer));
     }
     answer_word(moves(read_state(words), gains, values, care, work))
 }

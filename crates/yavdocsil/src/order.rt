@@ -3,24 +3,25 @@ ghost use Rattle.std.specs.Prelude.{◌≡◌, ◌<◌};
 ghost use Rattle.table.specs.Calls.{swap_outcome};
 ghost use Rattle.sift.specs.Calls.{sift_outcome, sift_work, SiftDemand, SiftNeverDearer, pass_outcome, pass_work, PassDemand, PassNeverDearer};
 ghost use Rattle.yavdocsil.specs.Words.{value_limit, state_from};
+ghost use Rattle.table.specs.Answer.{answer_of};
 ghost use Rattle.yavdocsil.specs.Called.{answer_to, leaves, words_after, success};
 
 use crate::answer::{answer_word, settle};
 use crate::state::{WORDS, read_state};
 use sift::passes::pass;
 use sift::single::sift;
-use table::Answer;
+use table::Refusal;
 use table::swap::swap;
 
 // Exchanges levels `level` and `level` + 1 of the order.
 #[unsafe(no_mangle)]
 pub extern "C" fn yav_swap(words: &mut [u64], level: u64) -> u64
-    ensures answer { result ≡ answer_to words.old (λ s. (swap_outcome s level).answer) }
+    ensures answer { result ≡ answer_to words.old (λ s. answer_of (swap_outcome s level)) }
     ensures words { words.new
         ≡ leaves words.old (λ s. words_after (swap_outcome s level) words.old) words.old }
 {
     if words.len() < WORDS {
-        return answer_word(Answer::ShortBuffer);
+        return answer_word(Err(Refusal::ShortBuffer));
     }
     let outcome = swap(read_state(words), level as usize);
     settle(outcome, words)
@@ -36,7 +37,7 @@ pub extern "C" fn yav_sift(
     work: &mut [u8],
 ) -> u64
     ensures answer { result ≡ answer_to words.old
-        (λ s. (sift_outcome s variable values.now care.now work.old).answer) }
+        (λ s. answer_of (sift_outcome s variable values.now care.now work.old)) }
     ensures words { words.new
         ≡ leaves words.old
         (λ s. words_after (sift_outcome s variable values.now care.now work.old) words.old)
@@ -49,7 +50,7 @@ pub extern "C" fn yav_sift(
         → SiftNeverDearer (state_from words.old) values.now care.now (success result words.new) }
 {
     if words.len() < WORDS {
-        return answer_word(Answer::ShortBuffer);
+        return answer_word(Err(Refusal::ShortBuffer));
     }
     let outcome = sift(read_state(words), variable as usize, values, care, work);
     settle(outcome, words)
@@ -65,7 +66,7 @@ pub extern "C" fn yav_pass(
     work: &mut [u8],
 ) -> u64
     ensures answer { result ≡ answer_to words.old
-        (λ s. (pass_outcome s limit values.now care.now work.old).answer) }
+        (λ s. answer_of (pass_outcome s limit values.now care.now work.old)) }
     ensures words { words.new
         ≡ leaves words.old
         (λ s. words_after (pass_outcome s limit values.now care.now work.old) words.old)
@@ -79,7 +80,7 @@ pub extern "C" fn yav_pass(
         → PassNeverDearer (state_from words.old) limit values.now care.now (success result words.new) }
 {
     if words.len() < WORDS {
-        return answer_word(Answer::ShortBuffer);
+        return answer_word(Err(Refusal::ShortBuffer));
     }
     let outcome = pass(read_state(words), limit, values, care, work);
     settle(outcome, words)

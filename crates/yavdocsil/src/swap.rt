@@ -6,12 +6,13 @@ ghost use Rattle.network.specs.Build.{capacity};
 ghost use Rattle.swapping.specs.Swap.{cell_table, exchanged_order, reaches_swap, swap_cells_outcome, swap_cells_roots, swap_cells_cells};
 ghost use Rattle.swapping.specs.Swap.{swap_cells_work, Swapped};
 ghost use Rattle.yavdocsil.specs.Words.{value_limit, state_from};
+ghost use Rattle.table.specs.Answer.{answer_of};
 ghost use Rattle.yavdocsil.specs.Called.{is_state, answer_to, leaves, words_after, success};
 
 use crate::answer::{answer_word, settle};
 use crate::state::{WORDS, read_state};
 use swapping::swap::swap_cells;
-use table::Answer;
+use table::Refusal;
 
 // Exchanges levels `level` and `level` + 1 in the held cells. What `swap_cells` owes of its outcome, this owes of the answer and the words.
 #[unsafe(no_mangle)]
@@ -23,7 +24,7 @@ pub extern "C" fn yav_swap_cells(
     cells: &mut [u16],
 ) -> u64
     ensures answer { result ≡ answer_to words.old
-        (λ s. (swap_cells_outcome s level work.old roots.old cells.old).answer) }
+        (λ s. answer_of (swap_cells_outcome s level work.old roots.old cells.old)) }
     ensures words { words.new
         ≡ leaves words.old
         (λ s. words_after (swap_cells_outcome s level work.old roots.old cells.old) words.old)
@@ -48,7 +49,7 @@ pub extern "C" fn yav_swap_cells(
         (exchanged_order (state_from words.old) level) (capacity cells.old) }
 {
     if words.len() < WORDS {
-        return answer_word(Answer::ShortBuffer);
+        return answer_word(Err(Refusal::ShortBuffer));
     }
     let outcome = swap_cells(read_state(words), level as usize, work, roots, cells);
     settle(outcome, words)

@@ -1,12 +1,10 @@
 -- The walk from the roots down: the nodes seen at a level, each once, in a list with marks for what stands in it.
 -- Assumes nothing.
-use Rattle.std.specs.Prelude.{◌≡◌, Bool, true, cond, List, [], ◌∷◌, ◌++◌, ℕ, ◌+◌, ◌≤◌, ◌<◌, T, eqb, ltb, length, get_or, take}
+use Rattle.std.specs.Prelude.{◌≡◌, Bool, true, cond, List, [], ◌∷◌, ◌++◌, ℕ, ◌+◌, ◌≤◌, ◌<◌, T, eqb, ltb, length, get_or, Option, Some, None}
 use Rattle.lists.specs.Lists.{all, keep, has, distinct, equal}
 use Rattle.diagram.specs.Networks.Bound.{most_nodes}
 use Rattle.diagram.specs.Canonical.Structure.{targets, range}
 use Rattle.lent.specs.Lent.{lent_node}
-use Rattle.canonical.specs.declared.walk.Numbered.{Numbered}
-use Rattle.canonical.specs.declared.walk.Numbered.TheVariants.{Next, Broken}
 
 -- a list in which each stands once, after k is seen
 abbrev pub arrived : List ℕ → ℕ → List ℕ
@@ -39,23 +37,21 @@ pub record Own (count : ℕ) (cells : List ℕ) : Type 0 where
 abbrev pub is_below : ℕ → ℕ → Bool
 is_below n k = ltb k n
 
--- a list of len nodes, each once, all below the number of marks; exactly theirs have the stamp, and none has a later one
-pub record Listed (stamp len : ℕ) (list marks : List ℕ) : Type 0 where
-  pub small : length marks ≤ most_nodes
-  pub room : length marks ≤ length list
-  pub fits : len ≤ length list
-  pub apart : T (distinct eqb (take len list))
-  pub within : T (all (is_below (length marks)) (take len list))
-  pub marked : (k : ℕ) → k < length marks → eqb (get_or marks k 0) stamp ≡ has eqb k (take len list)
-  pub stamped : (k : ℕ) → k < length marks → get_or marks k 0 ≤ stamp
+-- node k has a mark, and the nodes that its edges are to
+pub record Markable (cells : List ℕ) (k : ℕ) : Type 0 where
+  pub node : k < most_nodes
+  pub low : (lent_node cells k).low ≤ most_nodes + most_nodes + 1
+  pub high : (lent_node cells k).high ≤ most_nodes + most_nodes + 1
 
--- such a list, of the nodes ks
-pub record Holds (ks : List ℕ) (stamp len : ℕ) (list marks : List ℕ) : Type 0 where
-  pub listed : Listed stamp len list marks
-  pub held : take len list ≡ ks
+-- nodes, each once; exactly theirs have the stamp of all marks, and none has a later one
+pub record Listed (stamp : ℕ) (ks marks : List ℕ) : Type 0 where
+  pub apart : T (distinct eqb ks)
+  pub within : T (all (is_below most_nodes) ks)
+  pub marked : (k : ℕ) → k < most_nodes → eqb (get_or marks k 0) stamp ≡ has eqb k ks
+  pub stamped : (k : ℕ) → k < most_nodes → get_or marks k 0 ≤ stamp
 
 -- the number after those of the nodes of ks that stand at level p, where these are the next ones
-unfoldable pub followed : List ℕ → ℕ → ℕ → List ℕ → Numbered
+unfoldable pub followed : List ℕ → ℕ → ℕ → List ℕ → Option ℕ
 followed cells p next ks =
     cond (equal eqb (lent_standing cells p ks) (range next (length (lent_standing cells p ks))))
-    (Next (next + length (lent_standing cells p ks))) Broken
+    (Some (next + length (lent_standing cells p ks))) None

@@ -1,9 +1,8 @@
 -- What the program that writes network files leaves on slices of any length: the file of what a build leaves, or a refusal's line.
 -- Assumes nothing.
-use Rattle.std.specs.Prelude.{cond, List, ℕ}
-use Rattle.table.specs.declared.Outcome.{Outcome}
+use Rattle.std.specs.Prelude.{cond, List, ℕ, Ok, Err}
 use Rattle.table.specs.declared.State.{State}
-use Rattle.table.specs.Answer.{done}
+use Rattle.table.specs.Answer.{Outcome, done}
 use Rattle.network_file.specs.Write.{write_answer, write_work}
 use Rattle.printed.specs.Built.{refused_line}
 use Rattle.printed.specs.BuiltInput.{built_outcome, built_work, built_roots, built_cells}
@@ -16,10 +15,12 @@ held_file s roots cells work out =
 
 -- the file of what a build leaves, or the build's refusal
 unfoldable pub outcome_file : Outcome → List ℕ → List ℕ → List ℕ → List ℕ → List ℕ
-outcome_file r roots cells work out = cond (done r.answer) (held_file r.state roots cells work out) (refused_line r.answer)
+outcome_file (Ok r) roots cells work out = held_file r.state roots cells work out
+outcome_file (Err refusal) roots cells work out = refused_line (Err refusal)
 
 unfoldable pub outcome_work : Outcome → List ℕ → List ℕ → List ℕ → List ℕ → List ℕ
-outcome_work r roots cells work out = cond (done r.answer) (write_work r.state roots cells work out) work
+outcome_work (Ok r) roots cells work out = write_work r.state roots cells work out
+outcome_work (Err refusal) roots cells work out = work
 
 -- an input is read, built in the file's order, and its network written
 unfoldable pub filed_text : List ℕ → List ℕ → List ℕ → List ℕ → List ℕ → List ℕ → List ℕ → List ℕ

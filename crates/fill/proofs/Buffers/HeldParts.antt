@@ -17,12 +17,29 @@ use Rattle.matching.specs.Links.{region_size, link_bytes}
 use Rattle.fill.specs.Work.{work_size, links_at, all_links, zero_work, trace_work}
 use Rattle.matching.specs.Level.{written}
 use Rattle.fill.specs.Inner.Descent.{holding, links_up_to}
+use Rattle.fill.specs.Inner.Lowering.{first_regions}
+use borrow.Author.Tests.{eqb-true, eq-eqb}
+use lib.Dec.{T, eqb}
+use Rattle.lists.proofs.Bools.{split, to-T, of_T}
 use Rattle.fill.proofs.Buffers.Sizes.{sizes}
 use Rattle.matching.proofs.Buffers.WrittenLevel.{Fit, fit-end, parts-under}
 
 -- one of the two regions
 abbrev pub Region : ℕ → Type 0
 Region from = (from ≡ 0) ⊎ (from ≡ region_size)
+
+-- which a test tells
+
+pub region-told : (from : ℕ) → T (first_regions from) → Region from
+unfolding first_regions
+region-told from t =
+    split (eqb from 0) (λ e. inl (eqb-true from 0 e)) (λ e. let k : T (eqb from region_size) = rw e at t in inr (eqb-true from region_size (of_T k)))
+
+pub region-met : (from : ℕ) → Region from → T (first_regions from)
+unfolding first_regions
+region-met from r =
+    ⊎_elim (λ (e : from ≡ 0). to-T (rw (eq-eqb from 0 e)))
+    (λ (e : from ≡ region_size). split (eqb from 0) (λ q. to-T (rw q)) (λ q. to-T (rw (q, eq-eqb from region_size e)))) r
 
 pub region-end : (from : ℕ) → Region from → from + region_size ≤ links_at
 region-end from r = ⊎_elim (λ (e : from ≡ 0). omega sizes) (λ (e : from ≡ region_size). omega sizes) r

@@ -1,6 +1,7 @@
 -- Two lents that agree on the care bits of the stream, and on its value bits where they are cared, hold tables that are alike, and are
 -- counted alike: the value bits of free rows and all bits past the stream never matter.
 -- Assumes nothing.
+use Rattle.std.specs.Prelude.{Ok}
 use mathlib.Core.Path.{◌≡◌, refl, ap, ap₂}
 use mathlib.Core.Bool.{Bool, not, cond}
 use mathlib.Core.List.{List}
@@ -10,8 +11,8 @@ use lib.Dec.{T}
 use Rattle.diagram.proofs.Filling.FreeRows.{Alike, cost-alike}
 use Rattle.block.specs.Bits.{stream_bit}
 use Rattle.table.specs.declared.State.{State}
-use Rattle.table.specs.declared.Answer.{Answer}
-use Rattle.table.specs.declared.Answer.TheVariants.{Done, ShortBuffer, NoTable}
+use Rattle.table.specs.Answer.{Answer}
+use Rattle.table.specs.declared.Refusal.TheVariants.{ShortBuffer, NoTable}
 use Rattle.table.specs.Answer.{unless, done}
 use Rattle.table.specs.State.{order_of, stage_of, is_nothing}
 use Rattle.fill.specs.Work.{zero_work}
@@ -37,7 +38,7 @@ module _ (s : State) (values care values' care' : List ℕ) (alike : AlikeBits (
     pub answer-alike : count_answer s values care work ≡ count_answer s values' care' work'
     unfolding count_answer
     answer-alike =
-        ap₂ (λ (b : Bool) (c : ℕ). unless b ShortBuffer (unless (not (is_nothing (stage_of s))) NoTable (Done c))) room
+        ap₂ (λ (b : Bool) (c : ℕ). unless b ShortBuffer (unless (not (is_nothing (stage_of s))) NoTable (Ok c))) room
         (cost-alike (held_table s values care) (held_table s values' care') held-alike (order_of s))
 
   -- and the work buffer after a count

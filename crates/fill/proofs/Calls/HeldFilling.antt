@@ -12,17 +12,16 @@ use Rattle.diagram.specs.Networks.Bound.{most_outputs, most_nodes}
 use Rattle.diagram.specs.Filling.Fill.{level, trace}
 use Rattle.diagram.specs.Networks.Network.{counts}
 use Rattle.diagram.specs.Table.{reordered, filled, cost}
-use Rattle.table.specs.declared.Answer.TheVariants.{Done}
 use Rattle.table.specs.declared.State.{State}
 use Rattle.table.specs.State.{order_of, stage_of, is_nothing}
 use Rattle.table.proofs.Held.{few-inputs, few-outputs}
 use Rattle.matching.specs.Links.{link_bytes}
 use Rattle.fill.specs.Work.{work_size, links_at, all_links, zero_work}
 use Rattle.matching.specs.Level.{parts_at}
-use Rattle.fill.specs.Calls.{held_table, drawn_outputs, per_level}
+use Rattle.fill.specs.Calls.{held_table, drawn_outputs, per_level, filled_levels}
 use Rattle.fill.specs.Inner.Descent.{links_below, counts_below, roomy, holding, links_up_to}
 use Rattle.fill.specs.Counts.{counts_at, links_end}
-use Rattle.fill.specs.Inner.Filling.{first_work, filled_work, filled_levels}
+use Rattle.fill.specs.Inner.Filling.{first_work, filled_work}
 use Rattle.fill.proofs.Buffers.Sizes.{sizes}
 use Rattle.fill.proofs.Buffers.HeldParts.{held-cleared, held-trace}
 use Rattle.matching.proofs.Buffers.PartLengths.{length-links}
@@ -90,7 +89,7 @@ module _ (s : State) (values care : List ℕ) (held : T (not (is_nothing (stage_
         cells-room = cells.1
 
         pub levels-held : (n : ℕ) → n ≡ sum ◌+◌ 0 cs
-            → record { answer = Done n; entries = entries; counts = cs } ≡ filled_levels s values care
+            → record { cells = n; entries = entries; counts = cs } ≡ filled_levels s values care
         unfolding filled_levels first_work
         levels-held n e =
             let a : n ≡ cost (held_table s values care) (order_of s) = e ∙ cells.0 in

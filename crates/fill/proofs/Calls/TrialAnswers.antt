@@ -1,5 +1,6 @@
 -- What trials answer and leave, by the test that led there.
 -- Assumes nothing.
+use Rattle.std.specs.Prelude.{Ok, Err}
 use mathlib.Core.Path.{◌≡◌, refl, ap, ap₂, ◌∙◌}
 use mathlib.Core.Bool.{true, false, not, ◌&&◌, and-false}
 use mathlib.Core.List.{List, ◌++◌}
@@ -9,8 +10,8 @@ use borrow.Author.Tests.{le-leb, lt-leb}
 use lib.Dec.{leb}
 use lib.ListN.{length, drop, replicate, length-replicate}
 use Rattle.lists.specs.Written.{splice}
-use Rattle.table.specs.declared.Answer.{Answer}
-use Rattle.table.specs.declared.Answer.TheVariants.{Done, ShortBuffer, NoTable}
+use Rattle.table.specs.Answer.{Answer}
+use Rattle.table.specs.declared.Refusal.TheVariants.{ShortBuffer, NoTable}
 use Rattle.table.specs.declared.State.{State}
 use Rattle.table.specs.Answer.{done}
 use Rattle.table.specs.State.{stage_of, is_nothing}
@@ -30,20 +31,20 @@ trials-zero n work m m' e past q =
     ∙ ap (λ (y : List ℕ). replicate trials_size 0 ++ y) past
 
 module _ (s : State) (except : ℕ) (values care found work : List ℕ) where
-  not-enough : enough values care work ≡ false → trials_answer s values care found work ≡ ShortBuffer
+  not-enough : enough values care work ≡ false → trials_answer s values care found work ≡ Err ShortBuffer
   unfolding trials_answer
   not-enough e = rw e
 
-  pub trials-values : length values < plane_size → trials_answer s values care found work ≡ ShortBuffer
+  pub trials-values : length values < plane_size → trials_answer s values care found work ≡ Err ShortBuffer
   trials-values h = not-enough (few-values values care work h)
 
-  pub trials-care : length care < plane_size → trials_answer s values care found work ≡ ShortBuffer
+  pub trials-care : length care < plane_size → trials_answer s values care found work ≡ Err ShortBuffer
   trials-care h = not-enough (few-care values care work h)
 
-  pub trials-work : length work < work_size → trials_answer s values care found work ≡ ShortBuffer
+  pub trials-work : length work < work_size → trials_answer s values care found work ≡ Err ShortBuffer
   trials-work h = not-enough (few-work values care work h)
 
-  pub trials-counts : length found < counts_size → trials_answer s values care found work ≡ ShortBuffer
+  pub trials-counts : length found < counts_size → trials_answer s values care found work ≡ Err ShortBuffer
   unfolding trials_answer
   trials-counts h = rw (lt-leb counts_size (length found) h, and-false (enough values care work))
 
@@ -51,11 +52,11 @@ module _ (s : State) (except : ℕ) (values care found work : List ℕ) where
     both : (enough values care work && leb counts_size (length found)) ≡ true
     both = ap₂ ◌&&◌ (is-enough values care work v c w) (le-leb counts_size (length found) f)
 
-    pub trials-none : not (is_nothing (stage_of s)) ≡ false → trials_answer s values care found work ≡ NoTable
+    pub trials-none : not (is_nothing (stage_of s)) ≡ false → trials_answer s values care found work ≡ Err NoTable
     unfolding trials_answer
     trials-none e = rw (both, e)
 
-    pub trials-done : not (is_nothing (stage_of s)) ≡ true → trials_answer s values care found work ≡ Done s.n
+    pub trials-done : not (is_nothing (stage_of s)) ≡ true → trials_answer s values care found work ≡ Ok s.n
     unfolding trials_answer
     trials-done e = rw (both, e)
 
@@ -66,8 +67,8 @@ module _ (s : State) (except : ℕ) (values care found work : List ℕ) where
   unfolding trials_counts trials_work
   trials-refused a e d = rw (e, d) (refl, (refl, refl))
 
-  pub trials-tried : trials_answer s values care found work ≡ Done s.n
-      → (Done s.n ≡ trials_answer s values care found work)
+  pub trials-tried : trials_answer s values care found work ≡ Ok s.n
+      → (Ok s.n ≡ trials_answer s values care found work)
       × ((tried_counts s except values care found s.n ≡ trials_counts s except values care found work)
       × (trials_zero work ≡ trials_work s values care found work))
   unfolding trials_counts trials_work

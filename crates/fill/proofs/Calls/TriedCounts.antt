@@ -1,11 +1,12 @@
 -- What trials leave: the lent counts level by level, the work buffer, and that they succeed; and what counts add up to.
 -- Assumes nothing.
+use Rattle.std.specs.Prelude.{Ok}
 use mathlib.Core.Path.{◌≡◌, refl, sym, ap, ◌∙◌, subst}
-use mathlib.Core.Bool.{true, false, not, and-false}
+use mathlib.Core.Bool.{true, false, not}
 use mathlib.Core.List.{List, ◌++◌, map, sum, append_assoc}
 use Prim.Native.Nat.{ℕ, zero, suc, ◌+◌, ◌*◌, ◌-◌, ◌≤◌, ◌<◌}
 use native.Mathlib.Omega.{arith}
-use borrow.Author.Tests.{le-leb, lt-leb, lt-ltb, le-ltb, ltb-true, ltb-false, eqb-true, eqb-false}
+use borrow.Author.Tests.{le-leb, lt-ltb, ltb-true, ltb-false, eqb-true, eqb-false}
 use lib.Dec.{T, eqb, ltb}
 use lib.ListN.{length, take, drop, replicate, replicate-append-replicate}
 use lib.Seq.{take_at}
@@ -19,7 +20,6 @@ use Rattle.lists.proofs.Written.Zeros.{zeros-drop}
 use Rattle.diagram.specs.Networks.Bound.{most_variables, most_outputs, most_nodes}
 use Rattle.diagram.specs.Networks.Network.{counts}
 use Rattle.diagram.specs.Table.{Table, reordered, filled, cost}
-use Rattle.table.specs.declared.Answer.TheVariants.{Done}
 use Rattle.table.specs.declared.State.{State}
 use Rattle.table.specs.State.{good_heading, stage_of, is_nothing}
 use Rattle.table.proofs.Held.{heading-inputs, heading-few}
@@ -35,14 +35,6 @@ module _ (p : ℕ) (known found : List ℕ) where
   pub counts-put : p < most_variables → counts_size ≤ length found → counts_put p known found ≡ splice found (most_variables * p) known
   unfolding counts_put
   counts-put h k = rw (lt-ltb p most_variables h, le-leb counts_size (length found) k)
-
-  pub put-nowhere : most_variables ≤ p → counts_put p known found ≡ found
-  unfolding counts_put
-  put-nowhere h = rw (le-ltb p most_variables h)
-
-  pub put-short : length found < counts_size → counts_put p known found ≡ found
-  unfolding counts_put
-  put-short h = rw (lt-leb counts_size (length found) h, and-false (ltb p most_variables))
 
 module _ (l : List ℕ) (p : ℕ) (x : List ℕ) (long : length x ≡ most_variables) (room : most_variables * p ≤ length l) where
   pub put-here : counts_of p (splice l (most_variables * p) x) ≡ x
@@ -103,7 +95,7 @@ module _ (s : State) (except : ℕ) (values care found : List ℕ) where
   -- trials of a held table in buffers that are long enough succeed
   module _ (work : List ℕ) (e : T (enough values care work)) (room : counts_size ≤ length found)
       (held : T (not (is_nothing (stage_of s)))) where
-    pub trials-done : trials_answer s values care found work ≡ Done s.n
+    pub trials-done : trials_answer s values care found work ≡ Ok s.n
     unfolding trials_answer
     trials-done =
         let b : enough values care work ≡ true = of_T e in

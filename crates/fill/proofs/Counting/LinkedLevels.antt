@@ -1,7 +1,8 @@
 -- The levels of links in a work buffer, whoever put them there: refused, or counted; and what is known of the counts.
 -- Assumes nothing.
+use Rattle.std.specs.Prelude.{Ok, Err}
 use mathlib.Core.Path.{◌≡◌, refl, sym, ap, ap₂, ◌∙◌}
-use mathlib.Core.Bool.{Bool, true, false, cond}
+use mathlib.Core.Bool.{true, false}
 use mathlib.Core.List.{List, [], ◌∷◌, sum}
 use Prim.Native.Nat.{ℕ, zero, suc, ◌+◌, ◌*◌, ◌≤◌, ◌<◌}
 use native.Mathlib.Nat.{zero-add, not-suc-le-zero, le_of_suc-le-suc}
@@ -13,11 +14,10 @@ use Rattle.lists.specs.Sums.{sum_below}
 use Rattle.lists.proofs.Bools.{to-T, and_l, and_r}
 use Rattle.lists.proofs.Numbers.Sums.{sum-add, sum-cong, sum-zero}
 use Rattle.diagram.specs.Networks.Bound.{most_variables, most_outputs}
-use Rattle.table.specs.declared.Answer.TheVariants.{Done, ShortBuffer}
+use Rattle.table.specs.declared.Refusal.TheVariants.{ShortBuffer}
 use Rattle.fill.specs.Work.{work_size, links_at}
 use Rattle.fill.specs.Calls.{per_level}
-use Rattle.fill.specs.Counts.{differing_pairs, counts_at, links_end, links_fit, linked_levels}
-use Rattle.fill.specs.Inner.Filling.{refused_levels}
+use Rattle.fill.specs.Counts.{differing_pairs, counts_at, links_end, links_fit, counted_links, linked_levels}
 use Rattle.fill.proofs.Buffers.Sizes.{sizes}
 use Rattle.fill.proofs.Counting.CountedCells.{counts-few}
 use Rattle.fill.proofs.Counting.PerLevel.{sum-per-level, per-level-at}
@@ -69,7 +69,7 @@ module _ (n m : ℕ) (entries work : List ℕ) where
   abbrev cs : List ℕ
   cs = counts_at work first ks
 
-  pub linked-refused : links_fit n m entries (length work) ≡ false → refused_levels ShortBuffer ≡ linked_levels n m entries work
+  pub linked-refused : links_fit n m entries (length work) ≡ false → Err ShortBuffer ≡ linked_levels n m entries work
   unfolding linked_levels
   linked-refused e = rw e
 
@@ -104,35 +104,39 @@ module _ (n m : ℕ) (entries work : List ℕ) where
     linked-few = omega (sizes, sum-per-level cs few, counts-few work first ks, linked-asks.3)
 
     pub linked-levels : (l : List ℕ) → l ≡ per_level cs → (k : ℕ) → k ≡ sum ◌+◌ 0 l
-        → record { answer = Done k; entries = entries; counts = l } ≡ linked_levels n m entries work
-    unfolding linked_levels
+        → Ok (record { cells = k; entries = entries; counts = l }) ≡ linked_levels n m entries work
+    unfolding linked_levels counted_links
     linked-levels l el k ek =
         let e : k ≡ sum ◌+◌ 0 cs = ek ∙ ap (sum ◌+◌ 0) el ∙ sum-per-level cs few in
-        rw fit (ap₂ (λ (x : ℕ) (y : List ℕ). record { answer = Done x; entries = entries; counts = y }) e el)
+        rw fit (ap₂ (λ (x : ℕ) (y : List ℕ). Ok (record { cells = x; entries = entries; counts = y })) e el)
+
+    pub linked-ok : linked_levels n m entries work ≡ Ok (counted_links n m entries work)
+    unfolding linked_levels
+    linked-ok = rw fit
 
     -- where the links end, what each level counts, and how many cells there are
 
     pub linked-end : start n ≤ work_size
     linked-end = omega (arith, ends-sum first n entries, linked-asks.3)
 
-    counted : (linked_levels n m entries work).counts ≡ per_level cs
-    unfolding linked_levels
-    counted = ap (λ (b : Bool). per_level (cond b cs [])) fit
+    counted : (counted_links n m entries work).counts ≡ per_level cs
+    unfolding counted_links
+    counted = refl
 
-    level-count : (q : ℕ) → q < n → get_or (linked_levels n m entries work).counts q 0 ≡ get_or cs q 0
+    level-count : (q : ℕ) → q < n → get_or (counted_links n m entries work).counts q 0 ≡ get_or cs q 0
     level-count q h = ap (λ (l : List ℕ). get_or l q 0) counted ∙ per-level-at cs q (omega (arith, linked-asks.0))
 
-    pub linked-at : (q : ℕ) → q < n → get_or (linked_levels n m entries work).counts q 0 ≡ differing_pairs work (start q) (get_or entries q 0)
+    pub linked-at : (q : ℕ) → q < n → get_or (counted_links n m entries work).counts q 0 ≡ differing_pairs work (start q) (get_or entries q 0)
     linked-at q h = level-count q h ∙ counts-level work first n entries q h
 
-    total : sum ◌+◌ 0 cs ≡ sum_below (λ q. get_or (linked_levels n m entries work).counts q 0) n
+    total : sum ◌+◌ 0 cs ≡ sum_below (λ q. get_or (counted_links n m entries work).counts q 0) n
     total =
         sum-levels cs n (counts-length work first n entries)
-        ∙ sum-cong (λ q. get_or cs q 0) (λ q. get_or (linked_levels n m entries work).counts q 0) n (λ q h. sym (level-count q h))
+        ∙ sum-cong (λ q. get_or cs q 0) (λ q. get_or (counted_links n m entries work).counts q 0) n (λ q h. sym (level-count q h))
 
-    pub linked-total : (linked_levels n m entries work).answer ≡ Done (sum_below (λ q. get_or (linked_levels n m entries work).counts q 0) n)
-    unfolding linked_levels
-    linked-total = rw fit (ap Done total)
+    pub linked-total : (counted_links n m entries work).cells ≡ sum_below (λ q. get_or (counted_links n m entries work).counts q 0) n
+    unfolding counted_links
+    linked-total = total
 
-    pub linked-small : 4 * sum_below (λ q. get_or (linked_levels n m entries work).counts q 0) n ≤ work_size
+    pub linked-small : 4 * sum_below (λ q. get_or (counted_links n m entries work).counts q 0) n ≤ work_size
     linked-small = omega (arith, total, counts-few work first ks, linked-asks.3)

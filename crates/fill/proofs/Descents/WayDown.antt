@@ -2,7 +2,7 @@
 -- Assumes nothing.
 use mathlib.Core.Path.{◌≡◌, refl, sym, ap, ap₂, ◌∙◌, subst}
 use mathlib.Core.List.{List, [], ◌∷◌, ◌++◌, append_assoc, append-nil}
-use mathlib.Core.Logic.{◌⊎◌, inl}
+use mathlib.Core.Logic.{inl}
 use Prim.Native.Nat.{ℕ, suc, ◌+◌, ◌*◌, ◌-◌, ◌≤◌}
 use native.Mathlib.Nat.{zero-add}
 use lib.Dec.{T}
@@ -11,7 +11,8 @@ use lib.Seq.{length-take-le}
 use Rattle.lists.specs.Written.{splice}
 use Rattle.diagram.specs.Networks.Bound.{most_variables}
 use Rattle.reorder.specs.Sizes.{width}
-use Rattle.matching.specs.Links.{region_size, word_size, link_bytes}
+use Rattle.matching.specs.Links.{region_size, link_bytes}
+use Rattle.matching.specs.Fits.{level_fits}
 use Rattle.fill.specs.Work.{work_size, links_at, all_links}
 use Rattle.matching.specs.Level.{parts_at, written}
 use Rattle.fill.specs.Calls.{per_level}
@@ -21,6 +22,8 @@ use Rattle.matching.proofs.Buffers.Chunks.{length-chunks}
 use Rattle.matching.specs.Parts.{flat}
 use Rattle.matching.proofs.Buffers.PartLengths.{Long, long-chunks, length-links, length-flat}
 use Rattle.matching.proofs.Buffers.WrittenLevel.{Fit}
+use Rattle.matching.proofs.Buffers.Fitting.{level-says}
+use Rattle.lists.proofs.Bools.{to-T}
 use Rattle.fill.proofs.Descents.LevelsBelow.{counts-suc, bytes-suc, links-two, links-length, Room, room-suc, none_left, room-first}
 use Rattle.fill.proofs.Descents.LevelsBelow.{level-fits}
 use Rattle.fill.proofs.Buffers.HeldParts.{Region, region-end, region-other, regions-apart, held-parts, held_next, held_none}
@@ -98,23 +101,27 @@ module _ (n : ℕ) (all : List (List ℕ)) (before work : List ℕ) (big : work_
         ∙ held-parts work big (width (suc d) + width (suc d)) from g.parts g.bytes fit-here g.region
 
     -- what the level asks
-    pub going-asks : length m ≡ length work
-        → ((from + region_size ≤ region_size - from) ⊎ ((region_size - from) + region_size ≤ from))
-        × (((from + region_size ≤ links) × ((region_size - from) + region_size ≤ links) × (links + 4 * k ≤ length m))
-        × (((k * (width (suc d) + width (suc d)) ≤ region_size) × ((k + k) * (width d + width d) ≤ region_size))
-        × ((from + region_size + word_size ≤ length m) × ((region_size - from) + region_size + word_size ≤ length m))))
-    going-asks e =
+    pub going-asks : n ≤ most_variables → length m ≡ length work → T (level_fits d from k (region_size - from) links (length m))
+    going-asks small e =
         let r = going-room in
         let c = g.count in
         let t = links-length d g.parts in
         let here = region-end from g.region in
-        let there = region-end (region_size - from) (region-other from g.region) in (
-          regions-apart from g.region,
+        let there = region-end (region_size - from) (region-other from g.region) in
+        to-T ((level-says d from k (region_size - from) links (length m)).met (
+          omega (sizes, g.levels),
           (
-            (omega (sizes, here, g.ends), omega (sizes, there, g.ends), omega (sizes, g.links-room, c)),
-            ((rw c r.here, rw c r.next), (omega (sizes, here), omega (sizes, there))),
+            regions-apart from g.region,
+            (
+              (omega (sizes, here, g.ends), omega (sizes, there, g.ends), omega (sizes, g.links-room, c)),
+              ((rw c r.here, rw c r.next), (omega (sizes, here), omega (sizes, there))),
+            ),
           ),
-        )
+        ))
+
+    -- its links lie in the work buffer
+    pub going-links : length m ≡ length work → links + 4 * k ≤ length m
+    going-links e = let t = links-length d g.parts in omega (sizes, g.links-room, g.count)
 
     pub going_on : (r : ℕ) (m' entries' : List ℕ) → n ≤ most_variables
         → r ≡ length (level_below d (parts_at (suc d) k from m)).parts

@@ -13,6 +13,9 @@ use Rattle.diagram.specs.Filling.Fill.{Link}
 use Rattle.diagram.specs.Networks.Trace.{differing}
 use Rattle.reorder.specs.Sizes.{width}
 use Rattle.matching.specs.Links.{region_size}
+use Rattle.matching.specs.Fits.{level_fits}
+use Rattle.matching.proofs.Buffers.Fitting.{level-says}
+use Rattle.lists.proofs.Bools.{to-T}
 use Rattle.fill.specs.Work.{work_size, links_at, trials_size}
 use Rattle.fill.specs.Calls.{per_level}
 use Rattle.matching.specs.Level.{parts_at, written}
@@ -107,11 +110,24 @@ module _ (p d : ℕ) (above work : List ℕ) (big : work_size ≤ length work) w
       counted-few = links-fit e k g.parts below g.count
 
       -- what the level asks
-      pub counted-asks : ((a + region_size ≤ level_links_at) × (to + region_size ≤ level_links_at) × (level_links_at + 4 * k ≤ length m))
-          × ((k * (width (suc e) + width (suc e)) ≤ region_size) × ((k + k) * (width e + width e) ≤ region_size))
-      counted-asks =
+      pub counted-asks : p + d ≤ most_variables → T (level_fits e a k to level_links_at (length m))
+      counted-asks small =
           let c = g.count in
-          ((g.place, (down-place to g.next).1, omega (trial_sizes, counted-few, g.same)), (rw c below.here, rw c below.next))
+          let down = down-place to g.next in
+          to-T ((level-says e a k to level_links_at (length m)).met (
+            omega (trial_sizes, g.levels),
+            (
+              g.apart,
+              (
+                (g.place, down.1, omega (trial_sizes, counted-few, g.same)),
+                ((rw c below.here, rw c below.next), (omega (trial_sizes, g.place, g.same), omega (trial_sizes, down.1, g.same))),
+              ),
+            ),
+          ))
+
+      -- its links lie in the work buffer
+      pub counted-links : level_links_at + 4 * k ≤ length m
+      counted-links = omega (trial_sizes, counted-few, g.same)
 
       pub counted-on : (r x : ℕ) (m' counts' : List ℕ) → p + d ≤ most_variables → length m' ≡ length m
           → r ≡ length (level_below e (parts_at (suc e) k a m)).parts

@@ -13,6 +13,10 @@ use Rattle.lists.proofs.Written.Windows.{drop_here, drop-behind}
 use Rattle.diagram.specs.Networks.Trace.{differing}
 use Rattle.reorder.specs.Sizes.{width}
 use Rattle.matching.specs.Links.{region_size}
+use Rattle.matching.specs.Fits.{level_fits, parts_fit}
+use Rattle.matching.proofs.Buffers.Fitting.{level-says, parts-say}
+use Rattle.lists.proofs.Bools.{to-T}
+use Rattle.diagram.specs.Networks.Bound.{most_variables}
 use Rattle.fill.specs.Work.{work_size, trials_size}
 use Rattle.matching.specs.Parts.{LevelParts, chunks, flat}
 use Rattle.matching.specs.Level.{parts_at, written}
@@ -22,7 +26,7 @@ use Rattle.matching.specs.Exchange.{exchanged_plane, exchanged_part}
 use Rattle.fill.specs.Inner.Lowering.{level_links_at, lowered_below}
 use Rattle.matching.proofs.Parts.PartExchange.{length_exchanged}
 use Rattle.matching.proofs.Buffers.Chunks.{length-chunks}
-use Rattle.fill.proofs.Buffers.HeldParts.{Region, region-end, region-other}
+use Rattle.fill.proofs.Buffers.HeldParts.{Region, region-end, region-other, regions-apart}
 use Rattle.matching.proofs.Buffers.PartLengths.{Long, long-chunks, length-flat, chunks-flat}
 use Rattle.fill.proofs.Descents.LevelsBelow.{Room, room-suc, room-first}
 use Rattle.fill.proofs.Lowered.TrialSizes.{trial_sizes}
@@ -82,36 +86,49 @@ module _ (d from k : ℕ) (work : List ℕ) (region : Region from) (big : work_s
   flat-size : length (flat exchanged) ≡ k * s
   flat-size = length-flat s exchanged long ∙ ap (λ (n : ℕ). n * s) (sym count)
 
+  inside : from + k * s ≤ length work
+  inside = omega (trial_sizes, fits, region-end from region)
+
   -- what the exchange asks, and what it leaves
-  pub exchange-asks : from + k * s ≤ length work
-  exchange-asks = omega (trial_sizes, fits, region-end from region)
+  pub exchange-asks : d + 2 ≤ most_variables → T (parts_fit d from k (length work))
+  exchange-asks small = to-T ((parts-say d from k (length work)).met (small, inside))
 
   module _ (m : List ℕ) (is : m ≡ splice work from (flat exchanged)) (same : length m ≡ length work) where
     held : parts_at (suc (suc d)) k from m ≡ exchanged
     held =
         ap₂ (λ (j : ℕ) (y : List ℕ). parts_at (suc (suc d)) j from y) count is
-        ∙ ap (λ (y : List ℕ). chunks s (length exchanged) y) (drop_here work from (flat exchanged) (omega (trial_sizes, exchange-asks)))
+        ∙ ap (λ (y : List ℕ). chunks s (length exchanged) y) (drop_here work from (flat exchanged) (omega (trial_sizes, inside)))
         ∙ chunks-flat s exchanged (drop (from + length (flat exchanged)) work) long
 
+    -- its links lie in the work buffer
+    pub level-links : level_links_at + 4 * k ≤ length m
+    level-links = omega (trial_sizes, links-fit (suc d) k exchanged below count)
+
     -- what the level asks
-    pub level-asks : ((from + region_size ≤ level_links_at) × ((region_size - from) + region_size ≤ level_links_at)
-        × (level_links_at + 4 * k ≤ length m))
-        × ((k * (width (suc (d + 1)) + width (suc (d + 1))) ≤ region_size) × ((k + k) * (width (d + 1) + width (d + 1)) ≤ region_size))
-    level-asks =
+    pub level-asks : d + 2 ≤ most_variables → T (level_fits (d + 1) from k (region_size - from) level_links_at (length m))
+    level-asks small =
         let e = add-one d in
-        let c = count in
+        let to = region_size - from in
         let h = subst (λ (n : ℕ). n * s ≤ region_size) (sym count) below.here in
-        let n = subst (λ (n : ℕ). (n + n) * (width (suc d) + width (suc d)) ≤ region_size) (sym count) below.next in (
+        let n = subst (λ (n : ℕ). (n + n) * (width (suc d) + width (suc d)) ≤ region_size) (sym count) below.next in
+        let here = region-end from region in
+        let there = region-end to (region-other from region) in
+        to-T ((level-says (d + 1) from k to level_links_at (length m)).met (
+          omega trial_sizes,
           (
-            omega (trial_sizes, region-end from region),
-            omega (trial_sizes, region-end (region_size - from) (region-other from region)),
-            omega (trial_sizes, links-fit (suc d) k exchanged below count),
+            regions-apart from region,
+            (
+              (omega (trial_sizes, here), omega (trial_sizes, there), level-links),
+              (
+                (
+                  subst (λ (y : ℕ). k * (width (suc y) + width (suc y)) ≤ region_size) (sym e) h,
+                  subst (λ (y : ℕ). (k + k) * (width y + width y) ≤ region_size) (sym e) n,
+                ),
+                (omega (trial_sizes, here), omega (trial_sizes, there)),
+              ),
+            ),
           ),
-          (
-            subst (λ (y : ℕ). k * (width (suc y) + width (suc y)) ≤ region_size) (sym e) h,
-            subst (λ (y : ℕ). (k + k) * (width y + width y) ≤ region_size) (sym e) n,
-          ),
-        )
+        ))
 
     pub lower-leaves : (r x : ℕ) (m' : List ℕ)
         → r ≡ length (level_below (d + 1) (parts_at (suc (d + 1)) k from m)).parts
@@ -134,6 +151,6 @@ module _ (d from k : ℕ) (work : List ℕ) (region : Region from) (big : work_s
               ∙ level-held (suc d) to k exchanged m m' long below count place in-work left',
           level-behind (suc d) to k exchanged m m' long below count place in-work left'
               ∙ ap (drop trials_size) is
-              ∙ drop-behind work from (flat exchanged) (omega (trial_sizes, exchange-asks)) trials_size
+              ∙ drop-behind work from (flat exchanged) (omega (trial_sizes, inside)) trials_size
               (omega (trial_sizes, flat-size, fits, region-end from region)),
         )

@@ -79,20 +79,20 @@ kept_same d k from m m' h e =
 
 module _ (s : State) (except : ℕ) (values care found work : List ℕ) (valid : T (not (is_nothing (stage_of s))))
     (big : work_size ≤ length work) where
-  pub trial-first : (k : ℕ) → k ≡ length (first_parts s values care) → parts_at s.n k 0 work ≡ first_parts s values care
-      → Trial s except values care found work s.n 0 0 k (per_level []) work found
+  pub trial-first : (from k : ℕ) (above : List ℕ) → from ≡ 0 → k ≡ length (first_parts s values care) → above ≡ per_level []
+      → parts_at s.n k 0 work ≡ first_parts s values care → Trial s except values care found work s.n 0 from k above work found
   unfolding tried_counts
-  trial-first k many held =
+  trial-first from k above front many none held =
       record {
         fs = drawn_outputs s values care;
         passed = [];
         rows = first_rows (drawn_outputs s values care) (few-inputs s valid) (few s values care valid);
-        region = inl refl;
+        region = inl front;
         count = many;
-        held = held;
+        held = ap (λ (at : ℕ). parts_at s.n k at work) front ∙ held;
         level = refl;
         levels = omega trial_sizes;
-        recorded = refl;
+        recorded = none;
         rest = map-id (lowered_counts s.n (drawn_outputs s values care));
         so_far = refl;
         behind = refl;
@@ -110,14 +110,14 @@ module _ (s : State) (except : ℕ) (values care found work : List ℕ) (valid :
 
     -- what the trial asks
     pub trial-asks : ((p + d ≤ most_variables) × (p < most_variables) × (above ≡ per_level (take p above)))
-        × ((from + region_size ≤ links_at) × (work_size ≤ length m) × T (roomy d (parts_at d k from m)))
+        × T (roomy d (parts_at d k from m))
     trial-asks = (
       (
         omega (trial_sizes, t.levels, few-inputs s valid),
         omega (trial_sizes, t.levels, few-inputs s valid),
         t.recorded ∙ ap per_level (sym above-is),
       ),
-      (region-end from t.region, omega (trial_sizes, t.same), roomy-held),
+      roomy-held,
     )
 
     -- the cells of each level, with the variable at level p
@@ -174,16 +174,13 @@ module _ (s : State) (except : ℕ) (values care found work : List ℕ) (valid :
     next-rows = rows-lowered t.fs t.rows
 
     pub lower-asks : ((d + 2 ≤ most_variables) × (p < most_variables))
-        × ((Region from × (work_size ≤ length m)) × (T (roomy (suc (suc d)) (parts_at (suc (suc d)) k from m))
-        × T (roomy (suc d) (lowered_below d (parts_at (suc (suc d)) k from m)).parts)))
+        × (T (roomy (suc (suc d)) (parts_at (suc (suc d)) k from m))
+        × T (roomy (suc d) (lowered_below d (parts_at (suc (suc d)) k from m)).parts))
     lower-asks = (
       (omega (trial_sizes, t.levels, few-inputs s valid), omega (trial_sizes, t.levels, few-inputs s valid)),
       (
-        (t.region, omega (trial_sizes, t.same)),
-        (
-          subst (λ (ps : List (List ℕ)). T (roomy (suc (suc d)) ps)) (sym still) (roomy-filled (suc (suc d)) t.fs t.rows),
-          subst (λ (l : LevelParts). T (roomy (suc d) l.parts)) (sym lowered-still) (roomy-filled (suc d) next next-rows),
-        ),
+        subst (λ (ps : List (List ℕ)). T (roomy (suc (suc d)) ps)) (sym still) (roomy-filled (suc (suc d)) t.fs t.rows),
+        subst (λ (l : LevelParts). T (roomy (suc d) l.parts)) (sym lowered-still) (roomy-filled (suc d) next next-rows),
       ),
     )
 

@@ -14,8 +14,7 @@ use Rattle.fill.proofs.count_links.Goals.{Else-not-links_fit}
 pub returns-then-not-links_fit : goal.returns-then-not-links_fit
 returns-then-not-links_fit c =
     let a = c.args in
-    c.refused.ensures
-    ∙ linked-refused a.n a.m a.entries a.work.now
+    linked-refused a.n a.m a.entries a.work.now
     (sym c.links_fit.ensures ∙ not-true c.links_fit.result c.if-not-links_fit.true-raw)
 
 -- the links fit
@@ -31,13 +30,13 @@ level_counts-counts-requires c =
     let q = linked-asks a.n a.m a.entries a.work.now (fit (goal.at.level_counts-counts-requires c).Else-not-links_fit) in
     (q.0, q.1, omega (sizes, q.2, q.3))
 
-pub total-cells-requires : goal.total-cells-requires
-total-cells-requires c =
+pub total-requires : goal.total-requires
+total-requires c =
     let a = c.args in
     omega (
       sizes,
       ap (sum ◌+◌ 0) c.level_counts-counts.ensures,
-      linked-few a.n a.m a.entries a.work.now (fit (goal.at.total-cells-requires c).Else-not-links_fit),
+      linked-few a.n a.m a.entries a.work.now (fit (goal.at.total-requires c).Else-not-links_fit),
     )
 
 pub returns : goal.returns
@@ -45,4 +44,4 @@ returns c =
     let a = c.args in
     let l = c.level_counts-counts in
     linked-levels a.n a.m a.entries a.work.now (fit (goal.at.returns c).Else-not-links_fit) l.result l.ensures
-    c.total-cells.result c.total-cells.ensures
+    c.total.result c.total.ensures

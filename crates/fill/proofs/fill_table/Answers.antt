@@ -1,9 +1,10 @@
 -- `fill::fill_table` meets its contract, a law for each way out. Assumes nothing.
-use mathlib.Core.Path.{◌≡◌, refl, sym, ◌∙◌}
+use mathlib.Core.Path.{◌≡◌, sym, ap, ◌∙◌}
 use mathlib.Core.Bool.{true, not}
 use borrow.Author.Tests.{not-true, not-false}
+use Rattle.std.specs.Prelude.{Ok}
 use Rattle.lists.proofs.Bools.{to-T}
-use Rattle.table.specs.declared.Answer.TheVariants.{ShortBuffer, NoTable}
+use Rattle.table.specs.declared.Refusal.TheVariants.{ShortBuffer, NoTable}
 use Rattle.table.specs.State.{stage_of, is_nothing}
 use Rattle.fill.proofs.Buffers.Sizes.{sizes}
 use Rattle.fill.proofs.Calls.Answers.{short-values, short-care, short-work, no_table, links-filled, links-refused}
@@ -14,28 +15,22 @@ pub returns-then-values-lt-PLANE : goal.returns-then-values-lt-PLANE
 returns-then-values-lt-PLANE c =
     let a = c.args in
     let r = links-refused a.state a.values.now a.care.now a.work.now ShortBuffer
-    (short-values a.state a.values.now a.care.now a.work.now (omega (sizes, c.if-values-lt-PLANE.true))) refl in record {
-      levels = c.refused.ensures ∙ r.0;
-      work = r.1;
-    }
+    (short-values a.state a.values.now a.care.now a.work.now (omega (sizes, c.if-values-lt-PLANE.true))) in
+    record { levels = r.0; work = r.1 }
 
 pub returns-then-care-lt-PLANE : goal.returns-then-care-lt-PLANE
 returns-then-care-lt-PLANE c =
     let a = c.args in
     let r = links-refused a.state a.values.now a.care.now a.work.now ShortBuffer
-    (short-care a.state a.values.now a.care.now a.work.now (omega (sizes, c.if-care-lt-PLANE.true))) refl in record {
-      levels = c.refused-then-care-lt-PLANE.ensures ∙ r.0;
-      work = r.1;
-    }
+    (short-care a.state a.values.now a.care.now a.work.now (omega (sizes, c.if-care-lt-PLANE.true))) in
+    record { levels = r.0; work = r.1 }
 
 pub returns-then-work-lt-WORK : goal.returns-then-work-lt-WORK
 returns-then-work-lt-WORK c =
     let a = c.args in
     let r = links-refused a.state a.values.now a.care.now a.work.now ShortBuffer
-    (short-work a.state a.values.now a.care.now a.work.now (omega (sizes, c.if-work-lt-WORK.true))) refl in record {
-      levels = c.refused-then-work-lt-WORK.ensures ∙ r.0;
-      work = r.1;
-    }
+    (short-work a.state a.values.now a.care.now a.work.now (omega (sizes, c.if-work-lt-WORK.true))) in
+    record { levels = r.0; work = r.1 }
 
 pub returns-then-not-holds_table : goal.returns-then-not-holds_table
 returns-then-not-holds_table c =
@@ -43,10 +38,8 @@ returns-then-not-holds_table c =
     let r = links-refused a.state a.values.now a.care.now a.work.now NoTable
     (no_table a.state a.values.now a.care.now a.work.now (omega (sizes, c.if-values-lt-PLANE.false))
     (omega (sizes, c.if-care-lt-PLANE.false)) (omega (sizes, c.if-work-lt-WORK.false))
-    (sym c.holds_table.ensures ∙ not-true c.holds_table.result c.if-not-holds_table.true-raw)) refl in record {
-      levels = c.refused-then-not-holds_table.ensures ∙ r.0;
-      work = r.1;
-    }
+    (sym c.holds_table.ensures ∙ not-true c.holds_table.result c.if-not-holds_table.true-raw)) in
+    record { levels = r.0; work = r.1 }
 
 held : (c : Else-not-holds_table)
     → not (is_nothing (stage_of c.args.state)) ≡ true
@@ -65,6 +58,6 @@ returns c =
     let r = links-filled a.state a.values.now a.care.now a.work.now
     (omega (sizes, c.if-values-lt-PLANE.false)) (omega (sizes, c.if-care-lt-PLANE.false)) (omega (sizes, c.if-work-lt-WORK.false))
     (held (goal.at.returns c).Else-not-holds_table) in record {
-      levels = c.fill_held.ensures.levels ∙ r.0;
+      levels = ap Ok c.fill_held.ensures.levels ∙ r.0;
       work = c.fill_held.ensures.work ∙ r.1;
     }

@@ -1,7 +1,7 @@
 -- The top variable at each level in turn, on parts of bytes, whatever they are: the level below entries whose top variable goes one level
 -- down, and the cells of the levels with the variable where it is.
 -- Assumes nothing.
-use Rattle.std.specs.Prelude.{true, List, [], ◌++◌, map, ℕ, suc, ◌*◌, take}
+use Rattle.std.specs.Prelude.{Bool, true, ◌||◌, List, [], ◌++◌, map, ℕ, suc, ◌*◌, eqb, take}
 use Rattle.diagram.specs.Filling.Fill.{level}
 use Rattle.diagram.specs.Networks.Trace.{differing}
 use Rattle.table.specs.declared.State.{State}
@@ -15,6 +15,10 @@ use Rattle.matching.specs.Exchange.{exchanged_part}
 -- the outputs' entries, as bytes
 abbrev pub first_parts : State → List ℕ → List ℕ → List (List ℕ)
 first_parts s values care = map encode (level true [] (drawn_outputs s values care)).entries
+
+-- where the kept entries' parts begin: one of the two regions at the front
+unfoldable pub first_regions : ℕ → Bool
+first_regions from = eqb from 0 || eqb from region_size
 
 -- where the links of one level go: behind two regions that are kept and two on the way down
 abbrev pub level_links_at : ℕ

@@ -1,10 +1,10 @@
--- The lent cells with no roots, what it takes to follow a row through them, and what the row gives at a root.
+-- The lent cells with no roots, and what it takes to follow a row through them.
 -- Assumes nothing.
-use Rattle.std.specs.Prelude.{Bool, true, List, ℕ, ◌/◌, ◌%◌, ◌^◌, ◌≤◌, T, eqb, length, get_or, take}
+use Rattle.std.specs.Prelude.{Bool, true, List, ℕ, ◌/◌, ◌%◌, ◌^◌, ◌≤◌, T, eqb, length, take}
 use Rattle.lists.specs.Lists.{all}
-use Rattle.diagram.specs.Networks.Diagram.{refers, node_good, gives}
+use Rattle.diagram.specs.Networks.Diagram.{refers, node_good}
 use Rattle.diagram.specs.Networks.Bound.{most_variables, most_outputs}
-use Rattle.diagram.specs.Orders.Order.{is_order, row_under}
+use Rattle.diagram.specs.Orders.Order.{is_order}
 use Rattle.lent.specs.Lent.{lent_cells}
 
 -- counted cells, all lent, that are good for n levels
@@ -27,7 +27,3 @@ pub record Rooted (m count : ℕ) (roots cells : List ℕ) : Type 0 where
   pub few : m ≤ most_outputs
   pub fit : m ≤ length roots
   pub own : T (all (refers true (lent_cells count cells)) (take m roots))
-
--- what the row gives at root j
-unfoldable pub output_at : ℕ → ℕ → List ℕ → List ℕ → ℕ → List ℕ → ℕ → Bool
-output_at n count order cells row roots j = gives true (lent_cells count cells) (row_under n (take n order) row) n (get_or roots j 0)

@@ -7,9 +7,6 @@ use lib.Bits.{bit_and, and_mask, mask_lt}
 use Rattle.lists.specs.Bits.{digit, bit}
 use Rattle.lists.proofs.Bits.Digits.{digit-eqb, one_shifted}
 
-pub mask_below : (i : ℕ) → bit_and i 7 < 8
-mask_below i = mask_lt i 3
-
 -- the remainder by 2ⁿ by a mask
 pub row-masked : (n x : ℕ) → n < 64 → bit_and x (1 * 2 ^ n % 2 ^ 64 - 1) ≡ x % 2 ^ n
 row-masked n x h = ap (λ (k : ℕ). bit_and x (k - 1)) (one_shifted n h) ∙ and_mask x n

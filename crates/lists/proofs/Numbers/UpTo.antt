@@ -85,7 +85,3 @@ first-elements m l h =
     let k : length (take m l) ≡ m = length-take-le m l h in
     ext_get_or 0 (take m l) (map f (up_to m)) (k ∙ sym (length-map-up_to f m))
     (λ j b. let a : j < m = omega arith in get_or-take m l j 0 a ∙ sym (get_or-map-up_to f m j 0 a))
-
--- a test of them
-pub all_first : (q : ℕ → Bool) (m : ℕ) (l : List ℕ) → m ≤ length l → all q (take m l) ≡ all (λ j. q (get_or l j 0)) (up_to m)
-all_first q m l h = ap (all q) (first-elements m l h) ∙ all-mapped q (λ j. get_or l j 0) (up_to m)

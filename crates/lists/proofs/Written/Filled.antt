@@ -47,10 +47,6 @@ module _ (f : ℕ → ℕ) (k p : ℕ) (h : p < k) where
   pub filled_more : (l : List ℕ) (x : ℕ) → l ≡ filled f k p → x ≡ f p → set l p x ≡ filled f k (p + 1)
   filled_more l x e d = ap₂ (λ (m : List ℕ) (y : ℕ). set m p y) e d ∙ one_more
 
--- all of them
-pub filled-all : (f : ℕ → ℕ) (k : ℕ) → filled f k k ≡ map f (up_to k)
-filled-all f k = map-up_to-cong k (λ q. cond (ltb q k) (f q) 0) f (λ i l. rw (lt-ltb i k l))
-
 -- the first n of a list that has zeros past n
 pub first-listed : (f : ℕ → ℕ) (n k : ℕ) → n ≤ k → take n (map (λ p. cond (ltb p n) (f p) 0) (up_to k)) ≡ map f (up_to n)
 first-listed f n k h =

@@ -9,17 +9,6 @@ use lib.Seq.{take_at, drop_at}
 use Rattle.lists.specs.Written.{splice}
 use Rattle.lists.proofs.Written.Splice.{set-end, splice-same}
 
--- one zero more
-pub zeros-more : (l : List ℕ) (k j : ℕ) (m m' : List ℕ) → k + j < length l → m ≡ splice l k (replicate j 0) → m' ≡ set m (k + j) 0
-    → m' ≡ splice l k (replicate (j + 1) 0)
-zeros-more l k j m m' h e e' =
-    let n : k + length {A = ℕ} (replicate j 0) ≡ k + j = ap (λ (y : ℕ). k + y) (length-replicate j 0) in
-    e'
-    ∙ ap (λ (y : List ℕ). set y (k + j) 0) e
-    ∙ ap (λ (y : ℕ). set (splice l k (replicate j 0)) y 0) (sym n)
-    ∙ set-end l k (replicate j 0) 0 (omega arith)
-    ∙ ap (splice l k) (replicate-append-replicate j 1 0)
-
 -- n zeros before r
 module _ (r : List ℕ) (n : ℕ) where
   zeros-split : (k : ℕ) → k ≤ n → replicate n 0 ++ r ≡ replicate k 0 ++ (replicate (n - k) 0 ++ r)

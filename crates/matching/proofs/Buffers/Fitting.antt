@@ -3,29 +3,20 @@
 use mathlib.Core.Path.{◌≡◌, refl, sym, ap, ◌∙◌}
 use mathlib.Core.Bool.{Bool, true, false, not, ◌&&◌, ◌||◌}
 use mathlib.Core.Logic.{◌⊎◌, inl, inr, ⊎_elim}
-use Prim.Native.Nat.{ℕ, suc, ◌+◌, ◌*◌, ◌-◌, ◌/◌, ◌≤◌, ◌<◌}
-use native.Mathlib.Nat.{le-div_iff_mul-le}
+use Prim.Native.Nat.{ℕ, suc, ◌+◌, ◌*◌, ◌≤◌, ◌<◌}
 use native.Mathlib.Omega.{arith}
 use borrow.Author.Tests.{leb-true, le-leb, ltb-true, lt-ltb, eqb-true, eq-eqb, not-true, not-false}
-use lib.Dec.{leb, ltb, eqb, leb→le, le→leb}
-use Rattle.lists.proofs.Bools.{to-T, both_ways}
+use lib.Dec.{leb, ltb, eqb}
+use Rattle.lists.proofs.Bools.{to-T}
 use Rattle.diagram.specs.Networks.Bound.{most_variables}
 use Rattle.reorder.specs.Sizes.{width}
 use Rattle.matching.specs.Links.{region_size, word_size}
 use Rattle.matching.specs.Fits.{regions_apart, region_fits, regions_fit, count_fits, level_fits, candidate_fits, parts_fit}
 
--- blocks that fit what is left, by a division
-pub blocks-counted : (at count size e : ℕ) → 0 < size → at ≤ e → leb count ((e - at) / size) ≡ leb (at + count * size) e
-blocks-counted at count size e h k =
-    let q = le-div_iff_mul-le {k = size} {x = count} {y = e - at} h in
-    both_ways (leb count ((e - at) / size)) (leb (at + count * size) e)
-    (λ t. le→leb (at + count * size) e (omega (arith, q.0 (leb→le count ((e - at) / size) t))))
-    (λ t. le→leb count ((e - at) / size) (q.1 (omega (arith, leb→le (at + count * size) e t))))
-
 -- the numbers of blocks and of bytes, as they are tested and as they are said
 
-pub region-word : (a len : ℕ) → leb (a + (region_size + word_size)) len ≡ leb (a + region_size + word_size) len
-region-word a len =
+pub region_word : (a len : ℕ) → leb (a + (region_size + word_size)) len ≡ leb (a + region_size + word_size) len
+region_word a len =
     let e : a + (region_size + word_size) ≡ a + region_size + word_size = omega arith in
     ap (λ (n : ℕ). leb n len) e
 
@@ -46,11 +37,14 @@ one_more k s n =
 
 -- a call's answer to a test, where its negation is asked
 
-pub refused : {r b : Bool} → r ≡ b → not r ≡ true → b ≡ false
-refused {r} e t = sym e ∙ not-true r t
-
 pub passed : {r b : Bool} → r ≡ b → not r ≡ false → b ≡ true
 passed {r} e t = sym e ∙ not-false r t
+
+-- tests in turn: v is what the first two come to, and u the third too
+pub in_turn : (a b c e v u : Bool) → v ≡ (a && b) → u ≡ (v && c) → (a && (b && (c && e))) ≡ (u && e)
+in_turn true true c e v u p q = rw (q, p)
+in_turn true false c e v u p q = rw (q, p)
+in_turn false b c e v u p q = rw (q, p)
 
 -- a test says a fact: it is true where the fact holds, and there alone
 pub record Says (b : Bool) (P : Type 0) : Type 0 where

@@ -3,12 +3,10 @@
 use mathlib.Core.Path.{◌≡◌, sym, ap, ap₂, ◌∙◌}
 use mathlib.Core.List.{List, [], ◌∷◌, ◌++◌}
 use mathlib.Core.Logic.{◌⊎◌, ⊎_elim}
-use Prim.Native.Nat.{ℕ, ◌+◌, ◌*◌, ◌≤◌, ◌<◌}
-use native.Mathlib.Nat.{mul-le-mul_right, add-zero}
+use Prim.Native.Nat.{ℕ, ◌+◌, ◌*◌, ◌≤◌}
+use native.Mathlib.Nat.{mul-le-mul_right}
 use native.Mathlib.Omega.{arith}
-use lib.Dec.{lit<}
-use lib.ListN.{length, get_or, take, drop, get_or-append}
-use lib.Seq.{get_or-drop}
+use lib.ListN.{length, take, drop}
 use Rattle.lists.specs.Written.{splice}
 use Rattle.lists.proofs.Written.Splice.{length-splice, splice-none}
 use Rattle.lists.proofs.Written.Windows.{window-before, drop_here, drop-behind, splice-over, splice-append, splice-swap}
@@ -64,23 +62,13 @@ module _ (s to links : ℕ) (work : List ℕ) (behind : to + region_size ≤ lin
 
   -- a link written once more, right behind itself
   pub link-again : (gs : List (List ℕ)) (k : Link) (m m' : List ℕ) → Fit s gs
-      → m ≡ written (record { parts = gs; links = k ∷ [] }) to links work
-      → m' ≡ splice m (links + 2) (get_or m links 0 ∷ get_or m (links + 1) 0 ∷ [])
+      → m ≡ written (record { parts = gs; links = k ∷ [] }) to links work → m' ≡ splice m (links + 2) (link_bytes (k ∷ []))
       → m' ≡ written (record { parts = gs; links = k ∷ k ∷ [] }) to links work
   unfolding written
   link-again gs k m m' h e e' =
       let x = link_bytes (k ∷ []) in
       let y = splice work to (flat gs) in
-      let i : links ≤ length y = omega (arith, length-parts gs h) in
-      let byte : (j : ℕ) → j < 2 → get_or m (links + j) 0 ≡ get_or x j 0 = λ j b.
-      sym (get_or-drop links m j 0)
-      ∙ ap (λ (z : List ℕ). get_or z j 0) (ap (drop links) e ∙ drop_here y links x i)
-      ∙ get_or-append x (drop (links + 2) y) 0 j b in
-      e'
-      ∙ ap₂ (λ (a b : ℕ). splice m (links + 2) (a ∷ b ∷ []))
-      (ap (λ (n : ℕ). get_or m n 0) (sym (add-zero links)) ∙ byte 0 (lit< tt)) (byte 1 (lit< tt))
-      ∙ ap (λ (z : List ℕ). splice z (links + 2) x) e
-      ∙ splice-append y links x i x
+      e' ∙ ap (λ (z : List ℕ). splice z (links + 2) x) e ∙ splice-append y links x (omega (arith, length-parts gs h)) x
 
   -- more parts and more links
   more : (gs gs' : List (List ℕ)) (ls ls' : List Link) → Fit s gs → Fit s gs' → length gs ≤ length gs'

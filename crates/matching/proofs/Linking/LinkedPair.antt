@@ -1,77 +1,95 @@
--- Two candidates linked one after the other, or one for both.
+-- Candidates linked after others, and one for both of two.
 -- Assumes nothing.
-use mathlib.Core.Path.{◌≡◌, refl, sym, ap, ◌∙◌, subst, subst₂}
-use mathlib.Core.Bool.{Bool, true, false, cond}
-use mathlib.Core.List.{List, [], ◌∷◌}
-use Prim.Native.Nat.{ℕ, ◌+◌, ◌*◌, ◌≤◌}
+use Rattle.std.proofs.Common.{◌≡◌, sym, ap, ap₂, ◌∙◌, subst, subst₂, Bool, true, false, cond, List, [], ◌∷◌, ◌++◌, ℕ, ◌+◌, ◌*◌, ◌/◌, ◌%◌, ◌≤◌}
+use Rattle.std.proofs.Common.{length, drop, length-append, length-drop, arith}
 use native.Mathlib.Nat.{mul-le-mul_right}
-use native.Mathlib.Omega.{arith}
-use lib.ListN.{length, get_or, drop, length-drop}
 use Rattle.lists.specs.Written.{splice}
-use Rattle.reorder.specs.Sizes.{width}
-use Rattle.matching.specs.Links.{region_size}
+use Rattle.matching.specs.Links.{region_size, link_number}
 use Rattle.matching.specs.Parts.{LevelParts, agree_part, united_or, candidate_part, level_parts}
-use Rattle.matching.specs.Level.{parts_at, written}
+use Rattle.matching.specs.Level.{parts_of, written}
+use Rattle.matching.specs.Inner.Linking.{HasRoom, Links}
+use Rattle.matching.specs.declared.entries.Entries.{Entries}
 use Rattle.matching.proofs.Buffers.Chunks.{length-chunks}
 use Rattle.matching.proofs.Buffers.PartLengths.{Long, long-chunks, level-grown}
 use Rattle.matching.proofs.Buffers.WrittenLevel.{link-again, level-step}
-use Rattle.matching.proofs.Linking.LinkedHalf.{LinkedBy, linked-fit}
+use Rattle.matching.proofs.Linking.LinkedHalf.{linked-fit}
 use Rattle.matching.proofs.Linking.Twice.{level-twice}
 
--- the same of candidates of d variables
-abbrev pub Linked : ℕ → ℕ → ℕ → ℕ → List ℕ → List (List ℕ) → ℕ → List ℕ → Type 0
-Linked d = LinkedBy (width d)
+-- candidates hs after candidates fs
+module _ (w : ℕ) (old one new : Entries) (work m m' : List ℕ) (fs hs : List (List ℕ)) (long : Long (w + w) fs) (long' : Long (w + w) hs)
+    (region : old.to + region_size ≤ length work) (room : (old.count + (length fs + length hs)) * (w + w) ≤ region_size)
+    (in-work : old.links ≤ length work) (first : Links w fs old one work m) where
+  pub linked-on : Links w hs one new m m' → Links w (fs ++ hs) old new work m'
+  linked-on second =
+      let s = w + w in
+      let gs = parts_of w old.count old.to work in
+      let among : Long s gs = long-chunks s old.count (drop old.to work) (omega (arith, length-drop old.to work)) in
+      let c : (length gs + (length fs + length hs)) * s ≤ region_size =
+      subst (λ (y : ℕ). (y + (length fs + length hs)) * s ≤ region_size) (sym (length-chunks s old.count (drop old.to work))) room in
+      let t =
+      level-step w old.to old.links work old.links_behind in-work gs fs hs among long long' c one.count new.count one.links m m'
+      first.count first.work (omega (arith, first.links))
+      (second.count ∙ ap (λ (y : ℕ). length (level_parts w (parts_of w one.count y m) hs).parts) first.to)
+      (second.work ∙ ap (λ (y : ℕ). written (level_parts w (parts_of w one.count y m) hs) y one.links m) first.to) in
+      record {
+        to = second.to ∙ first.to;
+        count = t.0;
+        links = omega (arith, first.links, second.links, length-append fs hs);
+        work = t.1;
+      }
 
-module _ (d to k l : ℕ) (work : List ℕ) (behind : to + region_size ≤ l) (in-work : l + 4 ≤ length work)
-    (f : List ℕ) (long : length f ≡ width d + width d) where
-  -- f twice: n entries and the work buffer m after it, m' with its link written again
-  pub twice-linked : (k + 1) * (width d + width d) ≤ region_size → (n : ℕ) (m m' : List ℕ) → Linked d to k l work (f ∷ []) n m
-      → m' ≡ splice m (l + 2) (get_or m l 0 ∷ get_or m (l + 1) 0 ∷ []) → Linked d to k l work (f ∷ f ∷ []) n m'
+-- a candidate f, and what comes after it
+module _ (w : ℕ) (old one : Entries) (work m f : List ℕ) (room : HasRoom 2 w old work) (long : length f ≡ w + w)
+    (first : Links w (f ∷ []) old one work m) where
+  pub second-room : length m ≡ length work → HasRoom 1 w one m
+  second-room same =
+      let s = w + w in
+      let gs = parts_of w old.count old.to work in
+      let among : Long s gs =
+      long-chunks s old.count (drop old.to work) (omega (arith, room, length-drop old.to work)) in
+      let r = level-grown w gs (f ∷ []) among (long, tt) in
+      let c : one.count + 1 ≤ old.count + 2 = omega (arith, r.2, first.count, length-chunks s old.count (drop old.to work)) in
+      record {
+        region = omega (arith, first.to, room.region);
+        parts = omega (arith, mul-le-mul_right s c, room.parts);
+        links = omega (arith, first.links, room.links);
+      }
+
+  -- g after it
+  pub both-linked : (new : Entries) (m' g : List ℕ) → length g ≡ w + w → Links w (g ∷ []) one new m m' → Links w (f ∷ g ∷ []) old new work m'
+  both-linked new m' g long' second =
+      linked-on w old one new work m m' (f ∷ []) (g ∷ []) (long, tt) (long', tt) (omega (arith, room.region)) room.parts
+      (omega (arith, room.links)) first second
+
+  -- f once more: its link is written again
+  pub twice-linked : (number : ℕ) (new : Entries) (m' : List ℕ)
+      → number ≡ link_number (candidate_part w f (parts_of w old.count old.to work)).link
+      → m' ≡ splice m one.links (number % 256 ∷ number / 256 % 256 ∷ [])
+      → new.to ≡ one.to → new.count ≡ one.count → new.links ≡ one.links + 2 → Links w (f ∷ f ∷ []) old new work m'
   unfolding level_parts
-  twice-linked room n m m' p q =
-      let c = candidate_part (width d) f (parts_at d k to work) in
-      let e = level-twice (width d) (parts_at d k to work) f [] long in
-      let fit = linked-fit (width d) k to f work long room (omega arith) in (
-        p.0 ∙ ap (λ (y : LevelParts). length y.parts) (sym e),
-        link-again (width d + width d) to l work behind (omega arith) c.parts c.link m m' fit p.1 q
-            ∙ ap (λ (y : LevelParts). written y to l work) (sym e),
-      )
-
-  module _ (room : (k + 2) * (width d + width d) ≤ region_size) where
-    among-long : Long (width d + width d) (parts_at d k to work)
-    among-long = long-chunks (width d + width d) k (drop to work) (omega (arith, length-drop to work))
-
-    -- what the candidate after f asks
-    pub second-room : (n : ℕ) → n ≡ length (level_parts (width d) (parts_at d k to work) (f ∷ [])).parts
-        → (n + 1) * (width d + width d) ≤ region_size
-    second-room n e =
-        let r = level-grown (width d) (parts_at d k to work) (f ∷ []) among-long (long, tt) in
-        let c : n + 1 ≤ k + 2 = omega (arith, r.2, length-chunks (width d + width d) k (drop to work)) in
-        omega (arith, mul-le-mul_right (width d + width d) c)
-
-    -- f and g: n entries and the work buffer m after f, r and m' after g
-    pub both-linked : (g : List ℕ) → length g ≡ width d + width d → (n r : ℕ) (m m' : List ℕ) → Linked d to k l work (f ∷ []) n m
-        → Linked d to n (l + 2) m (g ∷ []) r m' → Linked d to k l work (f ∷ g ∷ []) r m'
-    both-linked g long' n r m m' p q =
-        let s = width d + width d in
-        let c : (length (parts_at d k to work) + (1 + 1)) * s ≤ region_size =
-        subst (λ (y : ℕ). (y + 2) * s ≤ region_size) (sym (length-chunks s k (drop to work))) room in
-        level-step (width d) to l work behind (omega arith) (parts_at d k to work) (f ∷ []) (g ∷ []) among-long (long, tt) (long', tt) c
-        n r (l + 2) m m' p.0 p.1 refl q.0 q.1
+  twice-linked number new m' is q to count links =
+      let gs = parts_of w old.count old.to work in
+      let c = candidate_part w f gs in
+      let e = level-twice w gs f [] long in
+      let few : old.count + 1 ≤ old.count + 2 = omega arith in
+      let fit = linked-fit w old.count old.to f work long (omega (arith, mul-le-mul_right (w + w) few, room.parts)) (omega (arith, room.region)) in
+      record {
+        to = to ∙ first.to;
+        count = count ∙ first.count ∙ ap (λ (y : LevelParts). length y.parts) (sym e);
+        links = omega (arith, links, first.links);
+        work =
+            link-again (w + w) old.to old.links work old.links_behind (omega (arith, room.links)) c.parts c.link m m' fit first.work
+            (q ∙ ap₂ (λ (i n : ℕ). splice m i (n % 256 ∷ n / 256 % 256 ∷ [])) first.links is)
+            ∙ ap (λ (y : LevelParts). written y old.to old.links work) (sym e);
+      }
 
 -- the same of candidates that are equal
-pub linked-as : (d to k l r : ℕ) (work m f f' g g' : List ℕ) → f ≡ f' → g ≡ g' → Linked d to k l work (f ∷ g ∷ []) r m
-    → Linked d to k l work (f' ∷ g' ∷ []) r m
-linked-as d to k l r work m f f' g g' p q h = subst₂ (λ (x y : List ℕ). Linked d to k l work (x ∷ y ∷ []) r m) p q h
+pub linked-as : (w : ℕ) (old new : Entries) (work m f f' g g' : List ℕ) → f ≡ f' → g ≡ g' → Links w (f ∷ g ∷ []) old new work m
+    → Links w (f' ∷ g' ∷ []) old new work m
+linked-as w old new work m f f' g g' p q h = subst₂ (λ (x y : List ℕ). Links w (x ∷ y ∷ []) old new work m) p q h
 
-taken : (b : Bool) (w : ℕ) (high low low' : List ℕ) → agree_part false w high low ≡ b → low' ≡ united_or w high low low
+-- what two halves come to, where low' is low after high was united with it: that one for both where the two agree
+pub taken-are : (b : Bool) (w : ℕ) (high low low' : List ℕ) → agree_part false w high low ≡ b → low' ≡ united_or w high low low
     → cond b low' high ≡ united_or w high low high
-taken true w high low low' t p = p ∙ rw t
-taken false w high low low' t p = rw t
-
--- the candidates of two halves, where low' is low after high was united with it: that one for both where the two agree
-pub taken-are : (b : Bool) (w v : ℕ) (high low low' : List ℕ) → w ≡ v → agree_part false w high low ≡ b → low' ≡ united_or w high low low
-    → (low' ≡ united_or v high low low) × (cond b low' high ≡ united_or v high low high)
-taken-are b w v high low low' e t p =
-    let wide : (x : List ℕ) → united_or w high low x ≡ united_or v high low x = λ x. ap (λ (n : ℕ). united_or n high low x) e in
-    (p ∙ wide low, taken b w high low low' t p ∙ wide high)
+taken-are true w high low low' t p = p ∙ rw t
+taken-are false w high low low' t p = rw t

@@ -1,13 +1,14 @@
 -- Laws of bytes as one number, the first byte the lowest.
 -- Assumes nothing.
-use mathlib.Core.Path.{◌≡◌, refl, sym, ap, ap₂, ◌∙◌, subst}
+use mathlib.Core.Path.{◌≡◌, refl, sym, ap, ap₂, ◌∙◌}
 use mathlib.Core.List.{List, [], ◌∷◌}
 use Prim.Native.Nat.{ℕ, zero, suc, ◌+◌, ◌*◌, ◌-◌, ◌/◌, ◌%◌, ◌^◌, ◌≤◌, ◌<◌}
-use native.Mathlib.Nat.{not-suc-le-zero, add-zero, div-one, mod-one, zero-div, zero-mod}
+use native.Mathlib.Nat.{not-suc-le-zero, div-one, mod-one, zero-div, zero-mod}
 use native.Mathlib.Omega.{arith}
 use lib.ListN.{length, get_or, take, drop}
-use lib.Pow.{mod-pow-add, shr-shr, pow-add}
-use lib.Seq.{drop-cons, drop-drop, get_or-drop}
+use native.Mathlib.Numerals.{add-one}
+use lib.Pow.{mod-pow-add, shr-shr, pow-add, shl_exact}
+use lib.Seq.{drop-drop, get_or-drop}
 use Rattle.matching.specs.Inner.Words.{number_of, bytes_of}
 
 -- every element is a byte
@@ -25,48 +26,6 @@ small-take (suc n) [] h j = h j
 small-take (suc n) (b ∷ l) h zero = h 0
 small-take (suc n) (b ∷ l) h (suc j) = small-take n l (λ j. h (suc j)) j
 
-pub length-bytes : (w x : ℕ) → length (bytes_of w x) ≡ w
-length-bytes zero x = refl
-length-bytes (suc w) x = ap suc (length-bytes w (x / 256))
-
--- the first byte by itself
-word-cons : (s : List ℕ) (a i n : ℕ) → a + i < length s
-    → number_of (take (suc n) (drop (a + i) s)) ≡ get_or s (a + i) 0 + 256 * number_of (take n (drop (a + suc i) s))
-word-cons s a i n h =
-    let e : suc (a + i) ≡ a + suc i = omega arith in
-    ap (λ (y : List ℕ). number_of (take (suc n) y)) (drop-cons s (a + i) 0 h)
-    ∙ ap (λ (k : ℕ). get_or s (a + i) 0 + 256 * number_of (take n (drop k s))) e
-
--- eight bytes as the sum of bytes that are shifted up in a word of 64 bits
-pub word_sum : (s : List ℕ) (a : ℕ) → Small s → a + 8 ≤ length s
-    → get_or s a 0 + get_or s (a + 1) 0 * 2 ^ 8 % 2 ^ 64 + get_or s (a + 2) 0 * 2 ^ 16 % 2 ^ 64 + get_or s (a + 3) 0 * 2 ^ 24 % 2 ^ 64
-    + get_or s (a + 4) 0 * 2 ^ 32 % 2 ^ 64 + get_or s (a + 5) 0 * 2 ^ 40 % 2 ^ 64 + get_or s (a + 6) 0 * 2 ^ 48 % 2 ^ 64
-    + get_or s (a + 7) 0 * 2 ^ 56 % 2 ^ 64
-    ≡ number_of (take 8 (drop a s))
-word_sum s a h m =
-    let e : number_of (take 8 (drop a s)) ≡ get_or s a 0 + 256 * number_of (take 7 (drop (a + 1) s)) =
-    subst (λ (n : ℕ). number_of (take 8 (drop n s)) ≡ get_or s n 0 + 256 * number_of (take 7 (drop (a + 1) s))) (add-zero a)
-    (word-cons s a 0 7 (omega arith)) in
-    omega (
-      arith,
-      e,
-      h a,
-      h (a + 1),
-      h (a + 2),
-      h (a + 3),
-      h (a + 4),
-      h (a + 5),
-      h (a + 6),
-      h (a + 7),
-      word-cons s a 1 6 (omega arith),
-      word-cons s a 2 5 (omega arith),
-      word-cons s a 3 4 (omega arith),
-      word-cons s a 4 3 (omega arith),
-      word-cons s a 5 2 (omega arith),
-      word-cons s a 6 1 (omega arith),
-      word-cons s a 7 0 (omega arith),
-    )
-
 -- how large the number of bytes is
 some-power : (k : ℕ) → 0 < 256 ^ k
 some-power zero = omega arith
@@ -78,23 +37,6 @@ word_lt (suc n) zero l h m = absurd (not-suc-le-zero m)
 word_lt (suc n) (suc k) [] h m = some-power (suc k)
 word_lt (suc n) (suc k) (b ∷ l) h m = omega (arith, h 0, word_lt n k l (λ j. h (suc j)) (omega arith))
 
--- one byte more below the n bytes of x, where they stay below a word
-pub word_below : (s : List ℕ) (a w j x : ℕ) → Small s → 0 < j → j ≤ w → w ≤ 8 → a + w ≤ length s
-    → x ≡ number_of (take (w - j) (drop (a + j) s))
-    → (x * 256 % 2 ^ 64 + get_or s (a + (j - 1)) 0 < 2 ^ 64)
-    × (x * 256 % 2 ^ 64 + get_or s (a + (j - 1)) 0 ≡ number_of (take (w - (j - 1)) (drop (a + (j - 1)) s)))
-word_below s a w j x h some in-part few in_List e =
-    let n = w - j in
-    let o : suc (j - 1) ≡ j = omega arith in
-    let m : w - (j - 1) ≡ suc n = omega arith in
-    let t : number_of (take (w - (j - 1)) (drop (a + (j - 1)) s)) ≡ get_or s (a + (j - 1)) 0 + 256 * x =
-    ap (λ (k : ℕ). number_of (take k (drop (a + (j - 1)) s))) m
-    ∙ word-cons s a (j - 1) n (omega arith)
-    ∙ ap (λ (k : ℕ). get_or s (a + (j - 1)) 0 + 256 * number_of (take n (drop (a + k) s))) o
-    ∙ ap (λ (y : ℕ). get_or s (a + (j - 1)) 0 + 256 * y) (sym e) in
-    let b : number_of (take n (drop (a + j) s)) < 256 ^ 7 = word_lt n 7 (drop (a + j) s) (small-drop (a + j) s h) (omega arith) in
-    omega (arith, h (a + (j - 1)), b, t)
-
 -- the lowest bytes of a number of bytes, and the number of bytes of a number
 pub bytes_word : (w : ℕ) (l : List ℕ) → Small l → w ≤ length l → bytes_of w (number_of l) ≡ take w l
 bytes_word zero l h n = refl
@@ -103,23 +45,6 @@ bytes_word (suc w) (b ∷ l) h n =
     let p : (b + 256 * number_of l) % 256 ≡ b = omega (arith, h 0) in
     let q : (b + 256 * number_of l) / 256 ≡ number_of l = omega (arith, h 0) in
     ap₂ (λ (x y : ℕ). x ∷ bytes_of w y) p q ∙ ap (λ (y : List ℕ). b ∷ y) (bytes_word w l (λ j. h (suc j)) (omega arith))
-
--- what is left of the bytes, as a loop takes them
-pub rest-none : (w x : ℕ) → drop 0 (bytes_of w x) ≡ bytes_of (w - 0) x
-rest-none w x = let e : w ≡ w - 0 = omega arith in ap (λ (n : ℕ). bytes_of n x) e
-
-module _ (w x j rest : ℕ) (h : j < w) (p : drop j (bytes_of w x) ≡ bytes_of (w - j) rest) where
-  cut : drop j (bytes_of w x) ≡ rest % 256 ∷ bytes_of (w - (j + 1)) (rest / 256)
-  cut = let e : w - j ≡ suc (w - (j + 1)) = omega arith in p ∙ ap (λ (n : ℕ). bytes_of n rest) e
-
-  pub rest-byte : get_or (bytes_of w x) j 0 ≡ rest % 256
-  rest-byte =
-      let e : j ≡ j + 0 = omega arith in
-      ap (λ (n : ℕ). get_or (bytes_of w x) n 0) e ∙ sym (get_or-drop j (bytes_of w x) 0 0) ∙ ap (λ (l : List ℕ). get_or l 0 0) cut
-
-  pub rest_more : drop (j + 1) (bytes_of w x) ≡ bytes_of (w - (j + 1)) (rest / 256)
-  rest_more =
-      sym (drop-drop 1 j (bytes_of w x)) ∙ ap (drop 1) cut
 
 -- the number of the first n bytes, and of those behind them, out of that of all
 pub word-take : (n : ℕ) (l : List ℕ) → Small l → number_of (take n l) ≡ number_of l % 2 ^ (8 * n)
@@ -148,3 +73,32 @@ bytes-power zero = refl
 bytes-power (suc w) =
     let e : 8 * suc w ≡ 8 + 8 * w = omega arith in
     omega (arith, bytes-power w, pow-add 2 8 (8 * w), ap (λ (k : ℕ). 2 ^ k) e)
+
+-- one byte more on top
+number-snoc : (l : List ℕ) (j : ℕ) → j < length l → number_of (take (suc j) l) ≡ number_of (take j l) + get_or l j 0 * 256 ^ j
+number-snoc [] j h = absurd (not-suc-le-zero h)
+number-snoc (b ∷ l) zero h = omega arith
+number-snoc (b ∷ l) (suc j) h =
+    let e : 256 ^ suc j ≡ 256 * 256 ^ j = omega arith in
+    omega (arith, number-snoc l j (omega arith), ap (λ (n : ℕ). get_or l j 0 * n) e)
+
+-- the same where the byte is shifted up in a word
+pub byte-more : (l : List ℕ) (j x : ℕ) → Small l → j < length l → length l ≤ 8 → x ≡ number_of (take j l)
+    → (x + get_or l j 0 * 2 ^ (8 * j) % 2 ^ 64 < 2 ^ 64) × (x + get_or l j 0 * 2 ^ (8 * j) % 2 ^ 64 ≡ number_of (take (j + 1) l))
+byte-more l j x h in_List few e =
+    let s : get_or l j 0 * 2 ^ (8 * j) % 2 ^ 64 ≡ get_or l j 0 * 2 ^ (8 * j) = shl_exact 8 (8 * j) 64 (h j) (omega arith) in
+    let p : get_or l j 0 * 256 ^ j ≡ get_or l j 0 * 2 ^ (8 * j) = ap (λ (n : ℕ). get_or l j 0 * n) (bytes-power j) in
+    let q : number_of (take (suc j) l) ≡ number_of (take (j + 1) l) = ap (λ (n : ℕ). number_of (take n l)) (sym (add-one j)) in
+    omega (arith, s, p, q, e, number-snoc l j in_List, word_lt (suc j) 8 l h (omega arith))
+
+module _ (w x j rest : ℕ) (h : j < w) (p : drop j (bytes_of w x) ≡ bytes_of (w - j) rest) where
+  cut : drop j (bytes_of w x) ≡ rest % 256 ∷ bytes_of (w - (j + 1)) (rest / 256)
+  cut = let e : w - j ≡ suc (w - (j + 1)) = omega arith in p ∙ ap (λ (n : ℕ). bytes_of n rest) e
+
+  pub rest-byte : get_or (bytes_of w x) j 0 ≡ rest % 256
+  rest-byte =
+      let e : j ≡ j + 0 = omega arith in
+      ap (λ (n : ℕ). get_or (bytes_of w x) n 0) e ∙ sym (get_or-drop j (bytes_of w x) 0 0) ∙ ap (λ (l : List ℕ). get_or l 0 0) cut
+
+  pub rest_more : drop (j + 1) (bytes_of w x) ≡ bytes_of (w - (j + 1)) (rest / 256)
+  rest_more = sym (drop-drop 1 j (bytes_of w x)) ∙ ap (drop 1) cut

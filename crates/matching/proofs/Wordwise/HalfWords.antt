@@ -60,7 +60,7 @@ one-small x h (suc j) = lit< tt
 half-bits : (b : Bool) (d w : ℕ) (plane : List ℕ) → d < 3 → half_bytes b d w plane ≡ half_byte b d (get_or plane 0 0) ∷ []
 half-bits b d w plane k = let e = lt-ltb d 3 k in rw e
 
-half-cut : (b : Bool) (d w : ℕ) (plane : List ℕ) → 3 ≤ d → half_bytes b d w plane ≡ take w (drop (digit b * w) plane)
+pub half-cut : (b : Bool) (d w : ℕ) (plane : List ℕ) → 3 ≤ d → half_bytes b d w plane ≡ take w (drop (digit b * w) plane)
 half-cut b d w plane k = let e = le-ltb d 3 k in rw e
 
 -- a plane and what its half comes to

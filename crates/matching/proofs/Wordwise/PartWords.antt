@@ -16,9 +16,9 @@ use Rattle.lists.proofs.Lists.Membership.{all-mapped}
 use Rattle.lists.proofs.Numbers.UpTo.{map-up_to-first, map-up_to-cong}
 use Rattle.matching.specs.Bytes.{always_byte, agree_byte, merge_byte}
 use Rattle.matching.specs.Parts.{value_byte, care_byte, always_part, agree_part, merge_part}
-use Rattle.matching.specs.Inner.Words.{number_of, bytes_of, part_of}
+use Rattle.matching.specs.Inner.Words.{number_of, bytes_of, part_of, length-bytes_of}
 use Rattle.matching.proofs.Parts.Blockwise.{cond-lt, always-block, agree-block, merge-block}
-use Rattle.matching.proofs.Wordwise.Bytes.{Small, small-drop, small-take, length-bytes, bytes_word}
+use Rattle.matching.proofs.Wordwise.Bytes.{Small, small-drop, small-take, bytes_word}
 
 -- the lowest byte and the others
 by_byte : (x : ℕ) → x ≡ x / 256 * 256 + x % 256
@@ -43,7 +43,7 @@ agree-none i f g d =
     let z : bit_and 0 d ≡ 0 = and_zero_l d in
     ap (λ (x : ℕ). eqb (bit_and (bit_xor f g) x) (cond i x 0)) z ∙ ap (λ (x : ℕ). eqb x (cond i 0 0)) (and_zero_r (bit_xor f g)) ∙ none_of i
 
-merge-lt : (k f c g : ℕ) (i : Bool) → f < 2 ^ k → c < 2 ^ k → g < 2 ^ k → merge_byte i f c g < 2 ^ k
+pub merge-lt : (k f c g : ℕ) (i : Bool) → f < 2 ^ k → c < 2 ^ k → g < 2 ^ k → merge_byte i f c g < 2 ^ k
 unfolding merge_byte
 merge-lt k f c g i hf hc hg =
     or_lt k _ _ (xor_lt k _ _ (and_lt k f c hf hc) (cond-lt i k c hc)) (xor_lt k _ g (and_lt k g c hg hc) hg)
@@ -66,9 +66,9 @@ module _ {B : Type 0} (Q : ℕ → ℕ → ℕ → ℕ → B) where
       ≡ each w f c g d
   each_part w f c g d =
       let value : (x y j : ℕ) → j < w → value_byte (part_of w x y) j ≡ get_or (bytes_of w x) j 0 =
-      λ x y j h. get_or-append (bytes_of w x) (bytes_of w y) 0 j (rw (length-bytes w x) h) in
+      λ x y j h. get_or-append (bytes_of w x) (bytes_of w y) 0 j (rw (length-bytes_of w x) h) in
       let care : (x y j : ℕ) → care_byte w (part_of w x y) j ≡ get_or (bytes_of w y) j 0 =
-      λ x y j. ap (λ (n : ℕ). get_or (part_of w x y) (n + j) 0) (sym (length-bytes w x))
+      λ x y j. ap (λ (n : ℕ). get_or (part_of w x y) (n + j) 0) (sym (length-bytes_of w x))
       ∙ get_or-append-add (bytes_of w x) (bytes_of w y) j 0 in
       map-up_to-cong w _ _ (λ j h i. Q (value f c j h i) (care f c j i) (value g d j h i) (care g d j i))
 

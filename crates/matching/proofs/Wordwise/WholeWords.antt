@@ -61,27 +61,25 @@ all-eight p j =
     ∙ all-append-and (λ b. b) (map p (up_to j)) (map (λ n. p (j + n)) (up_to 8))
     ∙ ap (λ (b : Bool). b && all (λ b. b) (map (λ n. p (j + n)) (up_to 8))) (all-mapped (λ b. b) p (up_to j))
 
--- the words of f at j, and of the part at a
-module _ (w : ℕ) (f l : List ℕ) (a j : ℕ) (small-f : Small f) (small-l : Small l) (long : length f ≡ w + w)
-    (in_List : a + (w + w) ≤ length l) (more : j + 8 ≤ w) (i : Bool) where
+-- the words of f at j, and of the part at the front of l
+module _ (w : ℕ) (f l : List ℕ) (j : ℕ) (small-f : Small f) (small-l : Small l) (long : length f ≡ w + w)
+    (in_List : w + w ≤ length l) (more : j + 8 ≤ w) (i : Bool) where
   abbrev part : List ℕ
-  part = take (w + w) (drop a l)
+  part = take (w + w) l
 
   abbrev Words : (ℕ → ℕ → ℕ → ℕ → Type 0) → Type 0
   Words P =
-      P (number_of (take 8 (drop j f))) (number_of (take 8 (drop (w + j) f))) (number_of (take 8 (drop (a + j) l)))
-      (number_of (take 8 (drop (a + w + j) l)))
+      P (number_of (take 8 (drop j f))) (number_of (take 8 (drop (w + j) f))) (number_of (take 8 (drop j l)))
+      (number_of (take 8 (drop (w + j) l)))
 
   eight : Words (λ x c y d. all (λ b. b) (map (λ n. byte_test i w f part (j + n)) (up_to 8)) ≡ agree_byte i x c y d)
   eight =
-      let value : (n : ℕ) → n < 8 → value_byte part (j + n) ≡ get_or (bytes_of 8 (number_of (take 8 (drop (a + j) l)))) n 0 =
-      λ n h. let e : a + (j + n) ≡ a + j + n = omega arith in
-      get_or-take (w + w) (drop a l) (j + n) 0 (omega arith) ∙ get_or-drop a l (j + n) 0 ∙ ap (λ (m : ℕ). get_or l m 0) e
-      ∙ sym (word_byte l (a + j) n small-l (omega arith) h) in
-      let care : (n : ℕ) → n < 8 → care_byte w part (j + n) ≡ get_or (bytes_of 8 (number_of (take 8 (drop (a + w + j) l)))) n 0 =
-      λ n h. let e : a + (w + (j + n)) ≡ a + w + j + n = omega arith in
-      get_or-take (w + w) (drop a l) (w + (j + n)) 0 (omega arith) ∙ get_or-drop a l (w + (j + n)) 0 ∙ ap (λ (m : ℕ). get_or l m 0) e
-      ∙ sym (word_byte l (a + w + j) n small-l (omega arith) h) in
+      let value : (n : ℕ) → n < 8 → value_byte part (j + n) ≡ get_or (bytes_of 8 (number_of (take 8 (drop j l)))) n 0 =
+      λ n h. get_or-take (w + w) l (j + n) 0 (omega arith) ∙ sym (word_byte l j n small-l (omega arith) h) in
+      let care : (n : ℕ) → n < 8 → care_byte w part (j + n) ≡ get_or (bytes_of 8 (number_of (take 8 (drop (w + j) l)))) n 0 =
+      λ n h. let e : w + (j + n) ≡ w + j + n = omega arith in
+      get_or-take (w + w) l (w + (j + n)) 0 (omega arith) ∙ ap (λ (m : ℕ). get_or l m 0) e
+      ∙ sym (word_byte l (w + j) n small-l (omega arith) h) in
       let own : (n : ℕ) → n < 8 → care_byte w f (j + n) ≡ get_or (bytes_of 8 (number_of (take 8 (drop (w + j) f)))) n 0 =
       λ n h. let e : w + (j + n) ≡ w + j + n = omega arith in
       ap (λ (m : ℕ). get_or f m 0) e ∙ sym (word_byte f (w + j) n small-f (omega arith) h) in

@@ -1,5 +1,6 @@
 -- What a build leaves is a well-formed diagram, and evaluating any row gives the filled table's bits.
 -- Assumes nothing.
+use Rattle.std.specs.Prelude.{Ok}
 use mathlib.Core.Path.{◌≡◌, ap, ap₂, ◌∙◌, subst}
 use mathlib.Core.Bool.{true, not}
 use mathlib.Core.List.{List, ◌++◌}
@@ -19,7 +20,6 @@ use Rattle.diagram.specs.Orders.Order.{row_under}
 use Rattle.diagram.specs.Table.{filled_bit, Computes}
 use Rattle.diagram.proofs.Demands.{right}
 use Rattle.table.specs.declared.State.{State}
-use Rattle.table.specs.declared.Answer.TheVariants.{Done}
 use Rattle.table.specs.State.{good_heading, order_of, stage_of, is_nothing, is_network}
 use Rattle.table.proofs.Held.{few-outputs, stage-bad}
 use Rattle.fill.specs.Calls.{held_table}
@@ -89,7 +89,7 @@ module _ (s : State) (values care roots cells : List ℕ) (held : T (not (is_not
   -- so evaluating after a build answers them
   pub evaluate-built : evaluate_answer (network_state s (wanted s values care)) row (built_roots s values care roots)
       (built_cells s values care cells)
-      ≡ Done (packed s.m (λ j. filled_bit true (held_table s values care) (order_of s) j row))
+      ≡ Ok (packed s.m (λ j. filled_bit true (held_table s values care) (order_of s) j row))
   unfolding evaluate_answer
   evaluate-built =
       rw (
@@ -98,4 +98,4 @@ module _ (s : State) (values care roots cells : List ℕ) (held : T (not (is_not
         lt-ltb row (2 ^ s.n) known,
         good-built s values care roots cells held,
       )
-      (ap Done built-row)
+      (ap Ok built-row)

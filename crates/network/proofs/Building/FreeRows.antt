@@ -1,6 +1,7 @@
 -- Section 3 of document 01, 'Value bits of free rows never matter', of a build: two lents that agree on the care bits of the stream, and on
 -- its value bits where they are cared, have one outcome and leave the same.
 -- Assumes nothing.
+use Rattle.std.specs.Prelude.{Ok}
 use mathlib.Core.Path.{◌≡◌, ap}
 use mathlib.Core.Bool.{true, cond, not}
 use mathlib.Core.List.{List, ◌++◌}
@@ -9,10 +10,10 @@ use lib.Dec.{leb}
 use lib.ListN.{get_or, drop}
 use Rattle.lists.specs.Written.{over}
 use Rattle.diagram.proofs.Filling.FreeRows.{cost-alike, network-alike}
-use Rattle.table.specs.declared.Answer.{Answer}
-use Rattle.table.specs.declared.Answer.TheVariants.{Done, ShortBuffer, NoTable, TooSmall}
+use Rattle.table.specs.Answer.{Answer}
+use Rattle.table.specs.declared.Refusal.TheVariants.{ShortBuffer, NoTable, TooSmall}
 use Rattle.table.specs.declared.State.{State}
-use Rattle.table.specs.Answer.{unless, done}
+use Rattle.table.specs.Answer.{unless, done, outcome_of}
 use Rattle.table.specs.State.{order_of, stage_of, is_nothing}
 use Rattle.fill.specs.Work.{zero_work}
 use Rattle.fill.specs.Calls.{held_table}
@@ -39,12 +40,12 @@ module _ (s : State) (values care values' care' work roots cells : List ℕ)
   build-answer =
       λ i. unless (room i) ShortBuffer
       (unless (not (is_nothing (stage_of s))) NoTable
-      (unless (leb (wanted-alike i) (capacity cells)) (TooSmall (wanted-alike i)) (Done (wanted-alike i))))
+      (unless (leb (wanted-alike i) (capacity cells)) (TooSmall (wanted-alike i)) (Ok (wanted-alike i))))
 
   pub build-outcome : build_outcome s values care work roots cells ≡ build_outcome s values' care' work roots cells
   unfolding build_outcome
   build-outcome =
-      λ i. record { answer = build-answer i; state = cond (done (build-answer i)) (network_state s (wanted-alike i)) s }
+      λ i. outcome_of (build-answer i) (network_state s (wanted-alike i))
 
   pub build-roots : build_roots s values care work roots cells ≡ build_roots s values' care' work roots cells
   unfolding build_roots

@@ -21,8 +21,7 @@ use Rattle.diagram.specs.Demands.{Least, NoneFits}
 use Rattle.diagram.proofs.Networks.Evaluate.{formed-length}
 use Rattle.diagram.proofs.Demands.{right, as-drawn, least-cost, fits}
 use Rattle.table.specs.declared.State.{State}
-use Rattle.table.specs.declared.Outcome.{Outcome}
-use Rattle.table.specs.Answer.{value}
+use Rattle.table.specs.declared.Done.{Done}
 use Rattle.table.specs.State.{order_of, stage_of, is_nothing}
 use Rattle.table.proofs.Held.{few-outputs, ordered}
 use Rattle.fill.specs.Calls.{held_table}
@@ -107,8 +106,8 @@ module _ (s : State) (values care : List ℕ) (held : T (not (is_nothing (stage_
       (wanted-nodes s values care)
       ∙ lent-network D s.m (roots-length (held_table s values care) (order_of s)) (few-outputs s held) rest roots
 
-  -- demands 2 and 3's least of the held table's network, where an outcome answers and counts its cells
-  module _ (r : Outcome) (ea : value r.answer ≡ wanted s values care) (ec : r.state.count ≡ wanted s values care) where
+  -- demands 2 and 3's least of the held table's network, where a call that is done answers and counts its cells
+  module _ (r : Done) (ea : r.value ≡ wanted s values care) (ec : r.state.count ≡ wanted s values care) where
     built-held : (board : ℕ) → wanted s values care ≤ board → Built s values care r (held_network s values care) board
     unfolding held_network wanted
     built-held board h =

@@ -1,5 +1,6 @@
 -- What a build answers and leaves, by what the count answers and by the board.
 -- Assumes nothing.
+use Rattle.std.specs.Prelude.{Ok, Err}
 use mathlib.Core.Path.{◌≡◌, refl, sym, ap, ◌∙◌}
 use mathlib.Core.Bool.{Bool, true, false, not, ◌&&◌}
 use mathlib.Core.List.{List, ◌++◌}
@@ -14,16 +15,16 @@ use Rattle.diagram.specs.Table.{filled, cost}
 use Rattle.diagram.specs.Filling.Fill.{trace}
 use Rattle.diagram.specs.Networks.Network.{counts}
 use Rattle.diagram.specs.Networks.Bound.{most_outputs}
-use Rattle.table.specs.declared.Answer.{Answer}
-use Rattle.table.specs.declared.Answer.TheVariants.{Done}
-use Rattle.table.specs.declared.Answer.TheVariants.{ShortBuffer, NoTable, TooSmall}
+use Rattle.table.specs.Answer.{Answer}
+use Rattle.table.specs.declared.Refusal.{Refusal}
+use Rattle.table.specs.declared.Refusal.TheVariants.{ShortBuffer, NoTable, TooSmall}
 use Rattle.table.specs.declared.State.{State}
 use Rattle.table.specs.Answer.{unless, done, number, value}
 use Rattle.table.specs.State.{order_of, stage_of, is_nothing}
 use Rattle.table.specs.Calls.{plane_size}
 use Rattle.table.proofs.Files.Accepted.{unless-done}
 use Rattle.fill.specs.Work.{work_size, trace_work, zero_work}
-use Rattle.fill.specs.Calls.{held_table, enough, count_answer, levels_of, links_work, entry_counts, drawn_outputs, per_level}
+use Rattle.fill.specs.Calls.{held_table, enough, count_answer, filled_levels, links_work, entry_counts, drawn_outputs, per_level}
 use Rattle.lent.specs.Lent.{numbers_of, roots_size}
 use Rattle.lent.proofs.Sizes.{roots-size}
 use Rattle.network.specs.Build.{held_network, wanted, capacity, long_enough, network_state, reaches_board, clears, build_answer}
@@ -53,7 +54,7 @@ module _ (s : State) (values care work roots cells : List ℕ) where
   is_held = not (is_nothing (stage_of s))
 
   -- 10 for the roots
-  pub roots-short : length roots < most_outputs → answered ≡ ShortBuffer
+  pub roots-short : length roots < most_outputs → answered ≡ Err ShortBuffer
   unfolding build_answer
   roots-short h =
       rw (and_last (leb plane_size (length values)) (leb plane_size (length care)) (leb work_size (length work)) (leb roots_size (length roots))
@@ -75,7 +76,7 @@ module _ (s : State) (values care work roots cells : List ℕ) where
     answer-is : answered
         ≡ unless (enough values care work) ShortBuffer
         (unless is_held NoTable (unless (leb (wanted s values care) (capacity cells)) (TooSmall (wanted s values care))
-        (Done (wanted s values care))))
+        (Ok (wanted s values care))))
     unfolding build_answer
     answer-is = rw all-long
 
@@ -97,33 +98,33 @@ module _ (s : State) (values care work roots cells : List ℕ) where
 
     -- where the count is a success, the board decides
 
-    pub count-done : (total : ℕ) → counted ≡ Done total → T is_held × (total ≡ wanted s values care)
+    pub count-done : (total : ℕ) → counted ≡ Ok total → T is_held × (total ≡ wanted s values care)
     unfolding count_answer wanted
     count-done total e =
         split (enough values care work)
         (λ a. split is_held
-        (λ b. let q : Done (cost (held_table s values care) (order_of s)) ≡ Done total = rw (a, b) at e in (to-T b, sym (ap value q)))
-        (λ b. let q : NoTable ≡ Done total = rw (a, b) at e in
+        (λ b. let q : Ok (cost (held_table s values care) (order_of s)) ≡ Ok total = rw (a, b) at e in (to-T b, sym (ap value q)))
+        (λ b. let q : Err NoTable ≡ Ok total = rw (a, b) at e in
         let z : ◌≡◌ {A = ℕ} 21 0 = ap number q in absurd (omega arith)))
-        (λ a. let q : ShortBuffer ≡ Done total = rw a at e in
+        (λ a. let q : Err ShortBuffer ≡ Ok total = rw a at e in
         let z : ◌≡◌ {A = ℕ} 10 0 = ap number q in absurd (omega arith))
 
-    both : counted ≡ Done (wanted s values care)
-        → answered ≡ unless (leb (wanted s values care) (capacity cells)) (TooSmall (wanted s values care)) (Done (wanted s values care))
+    both : counted ≡ Ok (wanted s values care)
+        → answered ≡ unless (leb (wanted s values care) (capacity cells)) (TooSmall (wanted s values care)) (Ok (wanted s values care))
     unfolding count_answer
     both e =
         split (enough values care work)
         (λ a. split is_held (λ b. answer-is ∙ rw (a, b))
-        (λ b. let q : NoTable ≡ Done (wanted s values care) = rw (a, b) at e in
+        (λ b. let q : Err NoTable ≡ Ok (wanted s values care) = rw (a, b) at e in
         let z : ◌≡◌ {A = ℕ} 21 0 = ap number q in absurd (omega arith)))
-        (λ a. let q : ShortBuffer ≡ Done (wanted s values care) = rw a at e in
+        (λ a. let q : Err ShortBuffer ≡ Ok (wanted s values care) = rw a at e in
         let z : ◌≡◌ {A = ℕ} 10 0 = ap number q in absurd (omega arith))
 
-    pub too_small : counted ≡ Done (wanted s values care) → capacity cells < wanted s values care
-        → answered ≡ TooSmall (wanted s values care)
+    pub too_small : counted ≡ Ok (wanted s values care) → capacity cells < wanted s values care
+        → answered ≡ Err (TooSmall (wanted s values care))
     too_small e b = both e ∙ rw (lt-leb (wanted s values care) (capacity cells) b)
 
-    pub room-enough : counted ≡ Done (wanted s values care) → wanted s values care ≤ capacity cells → answered ≡ Done (wanted s values care)
+    pub room-enough : counted ≡ Ok (wanted s values care) → wanted s values care ≤ capacity cells → answered ≡ Ok (wanted s values care)
     room-enough e b = both e ∙ rw (le-leb (wanted s values care) (capacity cells) b)
 
   -- what a success says
@@ -133,7 +134,7 @@ module _ (s : State) (values care work roots cells : List ℕ) where
     pub long-roots : roots_size ≤ length roots
     pub held : T is_held
     pub room : wanted s values care ≤ capacity cells
-    pub answer : answered ≡ Done (wanted s values care)
+    pub answer : answered ≡ Ok (wanted s values care)
 
   pub succeeded : done answered ≡ true → Succeeded
   unfolding build_answer
@@ -143,9 +144,9 @@ module _ (s : State) (values care work roots cells : List ℕ) where
       let w = leb work_size (length work) in
       let r = leb roots_size (length roots) in
       let k = wanted s values care in
-      let l = unless-done (long_enough values care work roots) ShortBuffer _ refl (to-T d) in
-      let h = unless-done is_held NoTable _ refl l.1 in
-      let b = unless-done (leb k (capacity cells)) (TooSmall k) (Done k) refl h.1 in
+      let l = unless-done (long_enough values care work roots) ShortBuffer _ (to-T d) in
+      let h = unless-done is_held NoTable _ l.1 in
+      let b = unless-done (leb k (capacity cells)) (TooSmall k) (Ok k) h.1 in
       let q = and_r v (c && (w && r)) l.0 in
       let el : long_enough values care work roots ≡ true = of_T l.0 in
       let eh : is_held ≡ true = of_T h.0 in
@@ -161,18 +162,18 @@ module _ (s : State) (values care work roots cells : List ℕ) where
 
   -- what a refusal leaves
 
-  module _ (x : Answer) (e : answered ≡ x) (d : done x ≡ false) where
-    pub refused-outcome : record { answer = x; state = s } ≡ build_outcome s values care work roots cells
+  module _ (x : Refusal) (e : answered ≡ Err x) where
+    pub refused-outcome : Err x ≡ build_outcome s values care work roots cells
     unfolding build_outcome
-    refused-outcome = rw (e, d)
+    refused-outcome = rw e
 
     pub refused-roots : roots ≡ build_roots s values care work roots cells
     unfolding build_roots
-    refused-roots = rw (e, d)
+    refused-roots = rw e
 
     pub refused-cells : cells ≡ build_cells s values care work roots cells
     unfolding build_cells
-    refused-cells = rw (e, d)
+    refused-cells = rw e
 
   pub work-kept : (x : Answer) → answered ≡ x → clears x ≡ false → work ≡ build_work s values care work roots cells
   unfolding build_work
@@ -185,8 +186,8 @@ module _ (s : State) (values care work roots cells : List ℕ) where
 
   -- and a success
 
-  module _ (e : answered ≡ Done (wanted s values care)) where
-    pub done-outcome : record { answer = Done (wanted s values care); state = network_state s (wanted s values care) }
+  module _ (e : answered ≡ Ok (wanted s values care)) where
+    pub done-outcome : Ok (record { value = wanted s values care; state = network_state s (wanted s values care) })
         ≡ build_outcome s values care work roots cells
     unfolding build_outcome
     done-outcome = rw e
@@ -207,16 +208,17 @@ module _ (s : State) (values care work : List ℕ) where
   unfolding links_work
   links-kept-work e = rw e
 
-  module _ (total : ℕ) (e : count_answer s values care work ≡ Done total) where
-    pub links-traced : links_work s values care work ≡ trace_work (trace true s.n (drawn_outputs s values care)) work
-    unfolding links_work
-    links-traced = rw e
+  pub links-traced : (total : ℕ) → count_answer s values care work ≡ Ok total
+      → links_work s values care work ≡ trace_work (trace true s.n (drawn_outputs s values care)) work
+  unfolding links_work
+  links-traced total e = rw e
 
-    pub levels-entries : (levels_of s values care work).entries ≡ per_level (entry_counts s.n (drawn_outputs s values care))
-    unfolding levels_of
-    levels-entries = rw e
+module _ (s : State) (values care : List ℕ) where
+  pub levels-entries : (filled_levels s values care).entries ≡ per_level (entry_counts s.n (drawn_outputs s values care))
+  unfolding filled_levels
+  levels-entries = refl
 
-    pub levels-counts : (levels_of s values care work).counts ≡ per_level
-        (counts true s.n (filled true (held_table s values care) (order_of s)))
-    unfolding levels_of
-    levels-counts = rw e
+  pub levels-counts : (filled_levels s values care).counts ≡ per_level
+      (counts true s.n (filled true (held_table s values care) (order_of s)))
+  unfolding filled_levels
+  levels-counts = refl

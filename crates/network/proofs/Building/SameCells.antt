@@ -9,7 +9,7 @@ use native.Mathlib.Omega.{arith}
 use lib.ListN.{length}
 use Rattle.diagram.specs.Canonical.SameCells.{SameCells}
 use Rattle.diagram.proofs.Canonical.SameCells.{network-same, same-network, same-cells}
-use Rattle.table.specs.declared.Outcome.{Outcome}
+use Rattle.table.specs.Answer.{Outcome, state_after}
 use Rattle.table.specs.declared.State.{State}
 use Rattle.table.specs.State.{order_of}
 use Rattle.table.proofs.Held.{ordered}
@@ -23,11 +23,11 @@ use Rattle.network.proofs.Building.Outcomes.{Succeeded, succeeded, done-outcome,
 
 -- what a build that is done leaves
 module _ (s : State) (values care work roots cells : List ℕ) (B : Succeeded s values care work roots cells) where
-  pub count_left-done : (build_outcome s values care work roots cells).state.count ≡ wanted s values care
-  count_left-done = ap (λ (r : Outcome). r.state.count) (sym (done-outcome s values care work roots cells B.answer))
+  pub count_left-done : (state_after s (build_outcome s values care work roots cells)).count ≡ wanted s values care
+  count_left-done = ap (λ (r : Outcome). (state_after s r).count) (sym (done-outcome s values care work roots cells B.answer))
 
   -- the diagram in the cells and the roots is the held table's network
-  pub diagram-left : lent_diagram (build_outcome s values care work roots cells).state.count s.m
+  pub diagram-left : lent_diagram (state_after s (build_outcome s values care work roots cells)).count s.m
       (build_cells s values care work roots cells) (build_roots s values care work roots cells)
       ≡ held_network s values care
   diagram-left =
@@ -37,7 +37,7 @@ module _ (s : State) (values care work roots cells : List ℕ) (B : Succeeded s 
       ∙ lent-held s values care B.held cells roots
 
   -- all counted cells are lent
-  cells_fit : 3 * (build_outcome s values care work roots cells).state.count ≤ length (build_cells s values care work roots cells)
+  cells_fit : 3 * (state_after s (build_outcome s values care work roots cells)).count ≤ length (build_cells s values care work roots cells)
   cells_fit =
       let e = ap (λ (l : List ℕ). length l) (done-cells s values care work roots cells B.answer) in
       omega (arith, count_left-done, cells-enough s values care cells, e)

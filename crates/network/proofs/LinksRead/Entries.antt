@@ -85,12 +85,6 @@ module _ (p below : ℕ) where
 
   -- e entries one after the other, where u is what j of them make of s
   module _ (i e j : ℕ) (s u : Made) (so_far : u ≡ level_made p below i j s) where
-    pub turn-work : length u.work ≡ length s.work
-    turn-work = ap (λ (x : Made). length x.work) so_far ∙ level-work i j s
-
-    pub turn-cells : length u.cells ≡ length s.cells
-    turn-cells = ap (λ (x : Made). length x.cells) so_far ∙ level-cells i j s
-
     pub turn-next : j < e → (entry_made p below (i + 4 * j) u).next ≤ (level_made p below i e s).next
     turn-next h =
         let k : j + 1 + (e - (j + 1)) ≡ e = omega arith in

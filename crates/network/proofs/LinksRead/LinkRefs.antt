@@ -6,8 +6,7 @@ use mathlib.Core.List.{List, [], ◌∷◌, ◌++◌, map}
 use Prim.Native.Nat.{ℕ, zero, suc, ◌+◌, ◌*◌, ◌-◌, ◌/◌, ◌%◌, ◌≤◌, ◌<◌}
 use native.Mathlib.Nat.{add-zero, le_of_suc-le-suc, not-suc-le-zero}
 use native.Mathlib.Omega.{arith}
-use native.Mathlib.Numerals.{add-one}
-use borrow.Author.Tests.{lt-ltb, le-ltb, eq-eqb, ne_eqb, eqb-true, eqb-false}
+use borrow.Author.Tests.{lt-ltb, le-ltb, eqb-true, eqb-false}
 use lib.Dec.{eqb, lit<}
 use lib.ListN.{length, get_or}
 use Rattle.lists.specs.Bits.{digit}
@@ -23,15 +22,6 @@ use Rattle.network.specs.Levels.{stored_limit, stored_at, ref_at}
 use Rattle.network.proofs.LinksRead.Stored.{same-stored}
 
 -- the opposite of a reference
-
-pub opposite-plain : (odd : Bool) (r : ℕ) → odd ≡ false → opposite odd r ≡ r
-opposite-plain odd r e = rw e
-
-pub opposite-odd : (odd : Bool) (r : ℕ) → odd ≡ true → r % 2 ≡ 1 → opposite odd r ≡ r - 1
-opposite-odd odd r e h = rw (e, eq-eqb (r % 2) 1 h)
-
-pub opposite-even : (odd : Bool) (r : ℕ) → odd ≡ true → (r % 2 ≡ 1 → ⊥) → opposite odd r ≡ r + 1
-opposite-even odd r e h = rw (e, ne_eqb (r % 2) 1 h, add-one)
 
 pub opposite-small : (odd : Bool) (r : ℕ) → r < stored_limit → opposite odd r < stored_limit
 opposite-small false r h = h

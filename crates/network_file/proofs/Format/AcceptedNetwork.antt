@@ -1,5 +1,6 @@
 -- What an accepted network file keeps: each test of document 02, 2.2, in its sequence; and a file that keeps them all is accepted.
 -- Assumes nothing.
+use Rattle.std.specs.Prelude.{Ok}
 use mathlib.Core.Path.{◌≡◌, refl, sym, ap, ◌∙◌}
 use mathlib.Core.Bool.{Bool, true, ◌&&◌}
 use mathlib.Core.List.{List}
@@ -13,8 +14,8 @@ use Rattle.lists.proofs.Numbers.Compared.{all-up_to-at, all-up_to-of}
 use Rattle.diagram.specs.Networks.Bound.{most_variables, most_outputs}
 use Rattle.diagram.specs.Orders.Order.{is_order}
 use Rattle.block.specs.Block.{block_size, content_at, whole_blocks, byte, good_check, good_number, unused_zero, unused_between}
-use Rattle.table.specs.declared.Answer.{Answer}
-use Rattle.table.specs.declared.Answer.TheVariants.{Done, BadLength, BadCheck, BadKind, BadContent}
+use Rattle.table.specs.Answer.{Answer}
+use Rattle.table.specs.declared.Refusal.TheVariants.{BadLength, BadCheck, BadKind, BadContent}
 use Rattle.table.specs.Answer.{done, first_refusal}
 use Rattle.table.specs.File.{file_inputs, file_outputs, file_order, shape_answer}
 use Rattle.table.proofs.Files.Accepted.{AcceptedShape, unless-done, both-done, accepted-from, accepted-shape}
@@ -51,10 +52,10 @@ accepted-network-heading file t =
     let e : Bool = eqb (byte file 0 0) 4 in
     let b : Bool = unused_between file 0 (6 + file_inputs file) count_at in
     let z : Bool = unused_zero file 0 (roots_at + 2 * file_outputs file) in
-    let c = unless-done (good_check file 0) BadCheck _ refl t in
-    let k = unless-done (e && good_number file 0) BadKind _ refl c.1 in
+    let c = unless-done (good_check file 0) BadCheck _ t in
+    let k = unless-done (e && good_number file 0) BadKind _ c.1 in
     let p = both-done (shape_answer file) _ k.1 in
-    let r = unless-done (b && z) BadContent (Done 0) refl p.1 in
+    let r = unless-done (b && z) BadContent (Ok 0) p.1 in
     record {
       check = c.0;
       kind = eqb→eq (byte file 0 0) 4 (and_l e (good_number file 0) k.0);
@@ -68,9 +69,9 @@ accepted-cells : (count : ℕ) (file : List ℕ) (k : ℕ) → T (done (cells_bl
 unfolding cells_block
 accepted-cells count file k t =
     let e : Bool = eqb (byte file k 0) 5 in
-    let c = unless-done (good_check file k) BadCheck _ refl t in
-    let n = unless-done (e && good_number file k) BadKind _ refl c.1 in
-    let r = unless-done (unused_zero file k (content_at + 2 * carried_numbers count k)) BadContent (Done 0) refl n.1 in
+    let c = unless-done (good_check file k) BadCheck _ t in
+    let n = unless-done (e && good_number file k) BadKind _ c.1 in
+    let r = unless-done (unused_zero file k (content_at + 2 * carried_numbers count k)) BadContent (Ok 0) n.1 in
     record {
       check = c.0;
       kind = eqb→eq (byte file k 0) 5 (and_l e (good_number file k) n.0);
@@ -82,9 +83,9 @@ pub accepted-network : (file : List ℕ) → T (done (network_file_answer file))
 unfolding network_file_answer cells_answer
 accepted-network file t =
     let c : ℕ = file_count file in
-    let l = unless-done (whole_blocks file) BadLength _ refl t in
+    let l = unless-done (whole_blocks file) BadLength _ t in
     let h = both-done (network_heading file) _ l.1 in
-    let s = unless-done (eqb (length file) (block_size * suc (cell_blocks c))) BadLength _ refl h.1 in
+    let s = unless-done (eqb (length file) (block_size * suc (cell_blocks c))) BadLength _ h.1 in
     record {
       heading = accepted-network-heading file h.0;
       long = eqb→eq (length file) (block_size * suc (cell_blocks c)) s.0;
@@ -93,13 +94,13 @@ accepted-network file t =
 
 -- one that keeps them is accepted
 
-none-refuses : (f : ℕ → Answer) (k left : ℕ) → ((j : ℕ) → k ≤ j → j < k + left → f j ≡ Done 0) → first_refusal f k left ≡ Done 0
+none-refuses : (f : ℕ → Answer) (k left : ℕ) → ((j : ℕ) → k ≤ j → j < k + left → f j ≡ Ok 0) → first_refusal f k left ≡ Ok 0
 unfolding first_refusal
 none-refuses f k zero h = refl
 none-refuses f k (suc left) h =
     rw (h k (omega arith) (omega arith)) (none-refuses f (suc k) left (λ j g l. h j (omega arith) (omega arith)))
 
-shape-accepted : (file : List ℕ) → AcceptedShape file → shape_answer file ≡ Done 0
+shape-accepted : (file : List ℕ) → AcceptedShape file → shape_answer file ≡ Ok 0
 unfolding shape_answer
 shape-accepted file a =
     rw (
@@ -109,7 +110,7 @@ shape-accepted file a =
       of_T {b = is_order (file_inputs file) (file_order file)} a.order,
     )
 
-heading-accepted : (file : List ℕ) → AcceptedNetworkHeading file → network_heading file ≡ Done 0
+heading-accepted : (file : List ℕ) → AcceptedNetworkHeading file → network_heading file ≡ Ok 0
 unfolding network_heading unused_heading
 heading-accepted file a =
     let b : unused_between file 0 (6 + file_inputs file) count_at ≡ true = of_T a.between in
@@ -123,7 +124,7 @@ heading-accepted file a =
       z,
     )
 
-cells-accepted : (count : ℕ) (file : List ℕ) (k : ℕ) → AcceptedCells count file k → cells_block count file k ≡ Done 0
+cells-accepted : (count : ℕ) (file : List ℕ) (k : ℕ) → AcceptedCells count file k → cells_block count file k ≡ Ok 0
 unfolding cells_block
 cells-accepted count file k a =
     let z : unused_zero file k (content_at + 2 * carried_numbers count k) ≡ true = of_T a.rest in
@@ -134,7 +135,7 @@ unfolding whole_blocks
 whole file blocks e =
     rw (le-leb 1 (length file) (omega arith), eq-eqb (length file % block_size) 0 (omega arith))
 
-pub network-accepted : (file : List ℕ) → AcceptedNetwork file → network_file_answer file ≡ Done 0
+pub network-accepted : (file : List ℕ) → AcceptedNetwork file → network_file_answer file ≡ Ok 0
 unfolding network_file_answer cells_answer
 network-accepted file a =
     let b : ℕ = cell_blocks (file_count file) in

@@ -1,6 +1,7 @@
 -- Numbers 24 and 32 of a network file: by the tests of a copy of its numbers, and of more cells than a network ever has.
 -- Assumes nothing.
-use mathlib.Core.Path.{◌≡◌, refl, ap, ◌∙◌}
+use Rattle.std.specs.Prelude.{Ok, Err}
+use mathlib.Core.Path.{◌≡◌, ap, ◌∙◌}
 use mathlib.Core.Bool.{true, false}
 use mathlib.Core.List.{List}
 use Prim.Native.Nat.{ℕ, ◌<◌}
@@ -13,7 +14,7 @@ use Rattle.lists.proofs.Numbers.UpTo.{length-map-up_to}
 use Rattle.diagram.specs.Networks.Bound.{most_nodes}
 use Rattle.diagram.specs.Networks.Diagram.{well_formed}
 use Rattle.diagram.specs.Canonical.Computed.{canonical}
-use Rattle.table.specs.declared.Answer.TheVariants.{Done, BadCells, NotCanonical}
+use Rattle.table.specs.declared.Refusal.TheVariants.{BadCells, NotCanonical}
 use Rattle.table.specs.Answer.{unless, done}
 use Rattle.table.specs.File.{file_inputs, file_outputs, file_order}
 use Rattle.table.proofs.Files.Accepted.{AcceptedShape, unless-done}
@@ -56,7 +57,7 @@ module _ (file : List ℕ) (a : AcceptedShape file) where
   -- more cells than a network ever has
 
   pub many-formed : most_nodes < file_count file → well_formed true (file_inputs file) (file_outputs file) (file_diagram file) ≡ true
-      → NotCanonical ≡ checked_answer file
+      → Err NotCanonical ≡ checked_answer file
   unfolding checked_answer
   many-formed h e =
       let n = file_inputs file in
@@ -65,7 +66,7 @@ module _ (file : List ℕ) (a : AcceptedShape file) where
       many-none n m (file_order file) (file_diagram file) a.inputs a.outputs a.order (to-T e) (omega (arith, counted-nodes file)) in
       rw (e, none)
 
-  pub many-bad : well_formed true (file_inputs file) (file_outputs file) (file_diagram file) ≡ false → BadCells ≡ checked_answer file
+  pub many-bad : well_formed true (file_inputs file) (file_outputs file) (file_diagram file) ≡ false → Err BadCells ≡ checked_answer file
   unfolding checked_answer
   many-bad e = rw e
 
@@ -79,11 +80,11 @@ unfolding checked_answer
 passed file e =
     let w = well_formed true (file_inputs file) (file_outputs file) (file_diagram file) in
     let k = canonical true (file_inputs file) (file_outputs file) (file_order file) (file_diagram file) in
-    let u = unless-done w BadCells (unless k NotCanonical (Done 0)) refl (to-T e) in
-    let v = unless-done k NotCanonical (Done 0) refl u.1 in
+    let u = unless-done w BadCells (unless k NotCanonical (Ok 0)) (to-T e) in
+    let v = unless-done k NotCanonical (Ok 0) u.1 in
     record { formed = u.0; network = v.0 }
 
-pub checked : (file : List ℕ) → Passed file → checked_answer file ≡ Done 0
+pub checked : (file : List ℕ) → Passed file → checked_answer file ≡ Ok 0
 unfolding checked_answer
 checked file p =
     let w : well_formed true (file_inputs file) (file_outputs file) (file_diagram file) ≡ true = of_T p.formed in

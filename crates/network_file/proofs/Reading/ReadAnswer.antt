@@ -1,6 +1,7 @@
 -- What reading a network file answers, one test after the other, and what a success says.
 -- Assumes nothing.
-use mathlib.Core.Path.{◌≡◌, refl, sym, ap, ◌∙◌}
+use Rattle.std.specs.Prelude.{Err}
+use mathlib.Core.Path.{◌≡◌, sym, ap, ◌∙◌}
 use mathlib.Core.Bool.{true, false, ◌&&◌, and-false}
 use mathlib.Core.List.{List}
 use Prim.Native.Nat.{ℕ, ◌/◌, ◌≤◌, ◌<◌}
@@ -9,10 +10,11 @@ use borrow.Author.Tests.{le-leb, lt-leb}
 use lib.Dec.{leb, leb→le}
 use lib.ListN.{length}
 use Rattle.lists.proofs.Bools.{split, of_T, to-T, absurd-T, and_l, and_r}
-use Rattle.table.specs.declared.Answer.{Answer}
-use Rattle.table.specs.declared.Answer.TheVariants.{ShortBuffer, TooSmall}
+use Rattle.table.specs.Answer.{Answer}
+use Rattle.table.specs.declared.Refusal.TheVariants.{ShortBuffer, TooSmall}
 use Rattle.table.specs.Answer.{done}
 use Rattle.table.specs.Calls.{plane_size}
+use Rattle.table.proofs.Variants.{refused-first, done-first}
 use Rattle.table.proofs.Files.Accepted.{unless-done, both-done}
 use Rattle.fill.specs.Work.{work_size}
 use Rattle.lent.specs.Lent.{roots_size}
@@ -61,32 +63,34 @@ module _ (values care work roots : List ℕ) where
       }
 
 module _ (file values care work roots cells : List ℕ) where
-  pub short : long_enough values care work roots ≡ false → ShortBuffer ≡ read_answer file values care work roots cells
+  pub short : long_enough values care work roots ≡ false → Err ShortBuffer ≡ read_answer file values care work roots cells
   unfolding read_answer
   short e = rw e
 
   module _ (long : long_enough values care work roots ≡ true) where
     pub file-refused : (x : Answer) → x ≡ network_file_answer file → done x ≡ false → x ≡ read_answer file values care work roots cells
     unfolding read_answer
-    file-refused x e d = rw (long, ← e, d)
+    file-refused x e d = rw long (e ∙ sym (refused-first (network_file_answer file) _ (sym (ap done e) ∙ d)))
 
     module _ (accepted : done (network_file_answer file) ≡ true) where
       pub small-board : (count : ℕ) → count ≡ file_count file → capacity cells < count
-          → TooSmall count ≡ read_answer file values care work roots cells
+          → Err (TooSmall count) ≡ read_answer file values care work roots cells
       unfolding read_answer
-      small-board count e h = rw (long, accepted, ← e, lt-leb count (length cells / 3) h)
+      small-board count e h =
+          rw long (sym (done-first (network_file_answer file) _ accepted ∙ rw (← e, lt-leb count (length cells / 3) h)))
 
       pub last-tests : file_count file ≤ capacity cells → checked_answer file ≡ read_answer file values care work roots cells
       unfolding read_answer checked_answer
-      last-tests h = rw (long, accepted, le-leb (file_count file) (length cells / 3) h)
+      last-tests h =
+          rw long (sym (done-first (network_file_answer file) _ accepted ∙ rw (le-leb (file_count file) (length cells / 3) h)))
 
   -- a success passed every test
   pub success : done (read_answer file values care work roots cells) ≡ true → Readable file values care roots cells
   unfolding read_answer checked_answer
   success e =
-      let u = unless-done (long_enough values care work roots) ShortBuffer _ refl (to-T e) in
+      let u = unless-done (long_enough values care work roots) ShortBuffer _ (to-T e) in
       let v = both-done (network_file_answer file) _ u.1 in
-      let w = unless-done (leb (file_count file) (capacity cells)) (TooSmall (file_count file)) _ refl v.1 in
+      let w = unless-done (leb (file_count file) (capacity cells)) (TooSmall (file_count file)) _ v.1 in
       let l = all-long values care work roots (of_T u.0) in
       let h = leb→le (file_count file) (capacity cells) w.0 in
       record {

@@ -9,6 +9,7 @@ use lib.Dec.{T}
 use lib.ListN.{length}
 use Rattle.lists.specs.Written.{over}
 use Rattle.lists.proofs.Bools.{of_T, to-T}
+use Rattle.diagram.specs.Networks.Bound.{most_outputs}
 use Rattle.diagram.specs.Networks.Diagram.{Diagram}
 use Rattle.diagram.specs.Orders.Order.{is_order}
 use Rattle.diagram.specs.Table.{Table}
@@ -26,8 +27,8 @@ use Rattle.table.proofs.Planes.PlaneSize.{plane-size}
 use Rattle.fill.specs.Calls.{held_table}
 use Rattle.lent.specs.Tabulate.{lent_table, tabulate_values, tabulate_care}
 use Rattle.lent.proofs.Sizes.{roots-size}
-use Rattle.lent.proofs.Tabulated.{plane-bit}
-use Rattle.lent.proofs.Tabulating.{table_done}
+use Rattle.lent.proofs.Tables.Tabulated.{plane-bit}
+use Rattle.lent.proofs.Tables.Tabulating.{tabulated_values, tabulated_care}
 use Rattle.network_file.specs.File.{file_count, file_diagram}
 use Rattle.network_file.specs.Read.{read_state, read_table, Given}
 use Rattle.network_file.proofs.Reading.Copied.{Copied}
@@ -53,13 +54,14 @@ module _ (file : List ℕ) (a : AcceptedShape file) (p : Passed file) where
       pub tabulated : (tabulate_values (read_state file) roots cells values care ≡ values_of file values)
           × (tabulate_care (read_state file) roots cells values care ≡ care_of file care)
       tabulated =
-          let v = over (plane_byte (λ x. x.value) (lent_table (read_state file) roots cells)) plane_size values in
-          let k = over (plane_byte (λ x. x.care) (lent_table (read_state file) roots cells)) plane_size care in
-          let d = table_done (read_state file) roots cells values care (omega (arith, c.enough-roots, roots-size)) hv hc
-          (network-state file a)
-          (good-file file a cells roots c ∙ of_T p.formed) v k refl refl in (
-            sym d.1.0 ∙ ap (λ (t : Table). over (plane_byte (λ x. x.value) t) plane_size values) lent-table,
-            sym d.1.1 ∙ ap (λ (t : Table). over (plane_byte (λ x. x.care) t) plane_size care) lent-table,
+          let s = read_state file in
+          let long : most_outputs ≤ length roots = omega (arith, c.enough-roots, roots-size) in
+          let held = network-state file a in
+          let good = good-file file a cells roots c ∙ of_T p.formed in (
+            tabulated_values s roots cells values care long hv hc held good
+                ∙ ap (λ (t : Table). over (plane_byte (λ x. x.value) t) plane_size values) lent-table,
+            tabulated_care s roots cells values care long hv hc held good
+                ∙ ap (λ (t : Table). over (plane_byte (λ x. x.care) t) plane_size care) lent-table,
           )
 
   -- the table in the planes has what the diagram computes, every row cared

@@ -1,5 +1,6 @@
 -- What is read is written again: of what was read from a file the writer makes the file's bytes.
 -- Assumes nothing.
+use Rattle.std.specs.Prelude.{Ok}
 use mathlib.Core.Path.{◌≡◌, sym, ap, ◌∙◌, subst, subst₂}
 use mathlib.Core.Bool.{true}
 use mathlib.Core.List.{List}
@@ -8,10 +9,10 @@ use lib.Dec.{T}
 use lib.ListN.{length, take}
 use Rattle.lists.proofs.Bools.{to-T}
 use Rattle.block.specs.Numbers.{are_bytes}
-use Rattle.table.specs.declared.Answer.{Answer}
-use Rattle.table.specs.declared.Answer.TheVariants.{Done}
+use Rattle.table.specs.Answer.{Answer}
 use Rattle.table.specs.declared.State.{State}
-use Rattle.table.specs.Answer.{done}
+use Rattle.table.specs.Answer.{done, state_after}
+use Rattle.table.proofs.Outcomes.{outcome-state}
 use Rattle.fill.specs.Work.{work_size}
 use Rattle.network_file.specs.File.{network_file_answer}
 use Rattle.network_file.specs.Read.{read_answer, read_state, read_outcome, read_roots, read_cells}
@@ -28,7 +29,7 @@ use Rattle.network_file.proofs.RoundTrips.SameBytes.{written_same}
 
 -- of a call that wrote what was read from the file: its answer, and the file buffer after it
 pub record WrittenAgain (file : List ℕ) (answer : Answer) (buffer : List ℕ) : Type 0 where
-  pub answered : answer ≡ Done 0
+  pub answered : answer ≡ Ok 0
   pub first : take (length file) buffer ≡ file
 
 -- a copy of the numbers of a file that passes every test, written with the file's state
@@ -38,8 +39,8 @@ pub copy_written : (file roots cells work buffer : List ℕ) → T (are_bytes fi
 copy_written file roots cells work buffer t accepted good copy h l =
     let s : State = read_state file in
     let a : AcceptedNetwork file = accepted-network file (to-T accepted) in
-    let e : write_answer s roots cells work buffer ≡ Done 0 =
-    sym (answered s roots cells work buffer copy.enough-roots h l (Done 0)
+    let e : write_answer s roots cells work buffer ≡ Ok 0 =
+    sym (answered s roots cells work buffer copy.enough-roots h l (Ok 0)
     (sym (copy-checked file a.heading.shape cells roots copy ∙ checked file (passed file good)))) in
     record {
       answered = e;
@@ -58,13 +59,13 @@ module _ (file values care work roots cells : List ℕ) (e : done (read_answer f
       let r = readable in
       copied-over file (outputs-fit file (shape_of file r.accepted)) cells roots _ _ r.cells-room r.roots-room (rw e) (rw e)
 
-  read-outcome : (before : State) → (read_outcome before file values care work roots cells).state ≡ read_state file
+  read-outcome : (before : State) → state_after before (read_outcome file values care work roots cells) ≡ read_state file
   unfolding read_outcome
-  read-outcome before = rw e
+  read-outcome before = outcome-state (read_answer file values care work roots cells) before (read_state file) e
 
   -- s, R and C are the state, the roots and the cells that the reader leaves
   pub read-written : T (are_bytes file) → (work' buffer : List ℕ) → work_size ≤ length work' → file_size ≤ length buffer
-      → (before s : State) (R C : List ℕ) → s ≡ (read_outcome before file values care work roots cells).state
+      → (before s : State) (R C : List ℕ) → s ≡ state_after before (read_outcome file values care work roots cells)
       → R ≡ read_roots file values care work roots cells → C ≡ read_cells file values care work roots cells
       → WrittenAgain file (write_answer s R C work' buffer) (written_file s R C work' buffer)
   read-written t work' buffer h l before s R C is_state is-roots is-cells =

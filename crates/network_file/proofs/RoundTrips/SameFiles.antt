@@ -24,13 +24,14 @@ use Rattle.block.specs.Numbers.{are_bytes}
 use Rattle.table.specs.declared.Stage.TheVariants.{Network}
 use Rattle.table.specs.declared.State.{State}
 use Rattle.table.specs.State.{order_of}
+use Rattle.table.proofs.Outcomes.{outcome-state}
 use Rattle.table.specs.File.{file_inputs, file_outputs, file_order}
 use Rattle.table.specs.Calls.{loaded_order}
 use Rattle.table.proofs.Files.Accepted.{AcceptedShape}
 use Rattle.fill.specs.Calls.{held_table}
 use Rattle.lent.proofs.Nodes.{same_number}
 use Rattle.network_file.specs.File.{file_count, file_root, cell_number, file_node, file_diagram}
-use Rattle.network_file.specs.Read.{read_state, read_table, read_outcome, read_values, read_care}
+use Rattle.network_file.specs.Read.{read_answer, read_state, read_table, read_outcome, read_values, read_care}
 use Rattle.network_file.specs.SameFiles.{Found, reads, state_left, table_left, SameFiles}
 use Rattle.network_file.specs.Inner.Checked.{Readable}
 use Rattle.network_file.proofs.Format.AcceptedNetwork.{accepted-network}
@@ -56,14 +57,15 @@ module _ (f : Found) (d : reads f ≡ true) where
 
   state-left : state_left f ≡ read_state f.file
   unfolding read_outcome
-  state-left = rw d
+  state-left =
+      outcome-state (read_answer f.file f.values f.care f.work f.roots f.cells) f.state (read_state f.file) d
 
   order-left : order_of (state_left f) ≡ file_order f.file
   order-left = ap order_of state-left ∙ order-of f.file shape
 
   table-left : table_left f ≡ held_table (read_state f.file) (values_of f.file f.values) (care_of f.file f.care)
-  unfolding read_outcome read_values read_care
-  table-left = rw d
+  unfolding read_values read_care
+  table-left = rw (state-left, d)
 
   -- in its rows is what the file's cells compute, so the file's diagram is its network
   drawn-left : Drawn true (file_inputs f.file) (file_outputs f.file) (file_order f.file) (file_diagram f.file) (table_left f)

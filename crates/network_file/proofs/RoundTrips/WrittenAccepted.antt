@@ -1,5 +1,6 @@
 -- A written network file passes every check of a network file.
 -- Assumes nothing.
+use Rattle.std.specs.Prelude.{Ok}
 use mathlib.Core.Path.{◌≡◌, sym, ◌∙◌, subst, subst₂}
 use mathlib.Core.Bool.{not}
 use mathlib.Core.List.{List}
@@ -10,7 +11,6 @@ use lib.ListN.{length, length-take}
 use Rattle.diagram.specs.Orders.Order.{is_order}
 use Rattle.diagram.proofs.Orders.Order.{order-length}
 use Rattle.block.specs.Block.{block_size, content_at}
-use Rattle.table.specs.declared.Answer.TheVariants.{Done}
 use Rattle.table.specs.declared.State.{State}
 use Rattle.table.specs.State.{order_of, stage_of, is_nothing}
 use Rattle.table.specs.File.{file_inputs, file_outputs, file_order}
@@ -84,5 +84,5 @@ module _ (s : State) (roots cells : List ℕ) where
               (λ (x : ℕ). (k : ℕ) → 1 ≤ k → k ≤ cell_blocks x → AcceptedCells x (written_bytes s roots cells) k) c written-cells;
         }
 
-    pub written-accepted : network_file_answer (written_bytes s roots cells) ≡ Done 0
+    pub written-accepted : network_file_answer (written_bytes s roots cells) ≡ Ok 0
     written-accepted = network-accepted (written_bytes s roots cells) written-network

@@ -1,5 +1,6 @@
 -- What is written is read again: of a written file the reader makes the same state, roots and cells, and the table that they compute.
 -- Assumes nothing.
+use Rattle.std.specs.Prelude.{Ok}
 use mathlib.Core.Path.{◌≡◌, refl, sym, ap, ap₂, ◌∙◌, subst, subst₂}
 use mathlib.Core.Bool.{true, cond}
 use mathlib.Core.List.{List}
@@ -15,11 +16,9 @@ use Rattle.diagram.specs.Networks.Bound.{most_outputs}
 use Rattle.diagram.specs.Networks.Diagram.{Diagram, well_formed}
 use Rattle.diagram.specs.Canonical.Computed.{computed_table, canonical}
 use Rattle.diagram.specs.Table.{Table}
-use Rattle.table.specs.declared.Answer.TheVariants.{Done}
-use Rattle.table.specs.declared.Outcome.{Outcome}
 use Rattle.table.specs.declared.State.{State}
 use Rattle.table.specs.declared.Stage.TheVariants.{Network}
-use Rattle.table.specs.Answer.{done}
+use Rattle.table.specs.Answer.{Outcome, done}
 use Rattle.table.specs.State.{order_of}
 use Rattle.table.specs.File.{file_inputs, file_outputs, file_order}
 use Rattle.table.specs.Stream.{plane_byte}
@@ -30,7 +29,7 @@ use Rattle.lent.specs.Tabulate.{lent_table}
 use Rattle.network.specs.Build.{capacity, long_enough}
 use Rattle.canonical.proofs.Answered.{Success}
 use Rattle.network_file.specs.File.{file_count, file_root, cell_number, file_diagram}
-use Rattle.network_file.specs.Read.{read_answer, read_outcome, read_table, read_values, read_care, read_roots, read_cells}
+use Rattle.network_file.specs.Read.{read_answer, read_state, read_outcome, read_table, read_values, read_care, read_roots, read_cells}
 use Rattle.network_file.specs.Write.{write_answer, written_file}
 use Rattle.network_file.proofs.Reading.Copied.{outputs-fit, Copied, copied-diagram}
 use Rattle.network_file.proofs.Reading.Checked.{Passed, checked}
@@ -41,16 +40,18 @@ use Rattle.network_file.proofs.RoundTrips.WrittenFile.{written_size, written_byt
 use Rattle.network_file.proofs.RoundTrips.WrittenFile.{written_count, written-root, written-no-root, written-cell}
 use Rattle.network_file.proofs.RoundTrips.WrittenAccepted.{held-order, written-shape, written-accepted}
 
--- of a call that read what was written of s, roots and cells: its outcome, and the lent values, care, roots and cells before and after
+-- of a call that read what was written of s, roots and cells: its outcome o, and the lent values, care, roots and cells before and after
 pub record ReadAgain (s : State) (roots cells : List ℕ) (o : Outcome)
     (values-before care-before roots-before cells-before values-after care-after roots-after cells-after : List ℕ) : Type 0 where
-  pub answered : o.answer ≡ Done 0
-  pub inputs : o.state.n ≡ s.n
-  pub outputs : o.state.m ≡ s.m
-  pub counted : o.state.count ≡ s.count
-  pub staged : o.state.stage ≡ Network
+  -- 0, and the state after it
+  pub left : State
+  pub answered : o ≡ Ok (record { value = 0; state = left })
+  pub inputs : left.n ≡ s.n
+  pub outputs : left.m ≡ s.m
+  pub counted : left.count ≡ s.count
+  pub staged : left.stage ≡ Network
   -- the first n entries
-  pub ordered : order_of o.state ≡ order_of s
+  pub ordered : order_of left ≡ order_of s
   -- the first m roots, then zeros; the counted cells
   pub rooted : roots-after ≡ over (λ j. cond (ltb j s.m) (get_or roots j 0) 0) roots_size roots-before
   pub celled : cells-after ≡ over (λ x. get_or cells x 0) (3 * s.count) cells-before
@@ -100,24 +101,25 @@ module _ (s : State) (roots cells : List ℕ) (p : Success s roots cells) where
       }
 
   module _ (values care work' roots' cells' : List ℕ) (l : T (long_enough values care work' roots')) (b : s.count ≤ capacity cells') where
-    pub written-answer : read_answer (written_bytes s roots cells) values care work' roots' cells' ≡ Done 0
+    pub written-answer : read_answer (written_bytes s roots cells) values care work' roots' cells' ≡ Ok 0
     written-answer =
         let F : List ℕ = written_bytes s roots cells in
         let c : file_count F ≡ s.count = written_count s roots cells in
         sym (last-tests F values care work' roots' cells' (of_T l) (ap done (written-accepted s roots cells p.held)) (omega arith))
         ∙ checked F written-passed
 
-    again : (before : State) → ReadAgain s roots cells (read_outcome before (written_bytes s roots cells) values care work' roots' cells')
+    again : ReadAgain s roots cells (read_outcome (written_bytes s roots cells) values care work' roots' cells')
         values care roots' cells' (read_values (written_bytes s roots cells) values care work' roots' cells')
         (read_care (written_bytes s roots cells) values care work' roots' cells')
         (read_roots (written_bytes s roots cells) values care work' roots' cells')
         (read_cells (written_bytes s roots cells) values care work' roots' cells')
     unfolding read_outcome read_values read_care read_roots read_cells roots_size
-    again before =
+    again =
         let F : List ℕ = written_bytes s roots cells in
         let few : s.m ≤ most_outputs = few-outputs s p.held in
         rw written-answer
         record {
+          left = read_state F;
           answered = refl;
           inputs = written-inputs s roots cells;
           outputs = written-outputs s roots cells;
@@ -134,15 +136,15 @@ module _ (s : State) (roots cells : List ℕ) (p : Success s roots cells) where
         }
 
 pub written_read : (s : State) (roots cells work buffer : List ℕ) → done (write_answer s roots cells work buffer) ≡ true
-    → (before : State) (values care work' roots' cells' : List ℕ) → T (long_enough values care work' roots') → s.count ≤ capacity cells'
+    → (values care work' roots' cells' : List ℕ) → T (long_enough values care work' roots') → s.count ≤ capacity cells'
     → (file : List ℕ) → file ≡ take (written_size s) (written_file s roots cells work buffer)
-    → ReadAgain s roots cells (read_outcome before file values care work' roots' cells') values care roots' cells'
+    → ReadAgain s roots cells (read_outcome file values care work' roots' cells') values care roots' cells'
     (read_values file values care work' roots' cells') (read_care file values care work' roots' cells')
     (read_roots file values care work' roots' cells') (read_cells file values care work' roots' cells')
-written_read s roots cells work buffer e before values care work' roots' cells' l b file q =
+written_read s roots cells work buffer e values care work' roots' cells' l b file q =
     subst
-    (λ (F : List ℕ). ReadAgain s roots cells (read_outcome before F values care work' roots' cells') values care roots' cells'
+    (λ (F : List ℕ). ReadAgain s roots cells (read_outcome F values care work' roots' cells') values care roots' cells'
     (read_values F values care work' roots' cells') (read_care F values care work' roots' cells')
     (read_roots F values care work' roots' cells') (read_cells F values care work' roots' cells'))
     (sym (q ∙ the-file s roots cells work buffer e))
-    (again s roots cells (network-passed s roots cells work buffer e) values care work' roots' cells' l b before)
+    (again s roots cells (network-passed s roots cells work buffer e) values care work' roots' cells' l b)

@@ -1,6 +1,7 @@
 -- What writing a network file answers and leaves, by the test that led there, and what a success says of the state.
 -- Assumes nothing.
-use mathlib.Core.Path.{◌≡◌, refl}
+use Rattle.std.specs.Prelude.{Err}
+use mathlib.Core.Path.{◌≡◌}
 use mathlib.Core.Bool.{true, false, cond, ◌&&◌, and-false}
 use mathlib.Core.List.{List}
 use Prim.Native.Nat.{ℕ, suc, ◌*◌, ◌≤◌, ◌<◌}
@@ -11,8 +12,8 @@ use lib.ListN.{length}
 use Rattle.lists.specs.Written.{over}
 use Rattle.lists.proofs.Bools.{to-T, and_r}
 use Rattle.block.specs.Block.{block_size}
-use Rattle.table.specs.declared.Answer.{Answer}
-use Rattle.table.specs.declared.Answer.TheVariants.{ShortBuffer}
+use Rattle.table.specs.Answer.{Answer}
+use Rattle.table.specs.declared.Refusal.TheVariants.{ShortBuffer}
 use Rattle.table.specs.declared.State.{State}
 use Rattle.table.specs.Answer.{done}
 use Rattle.table.proofs.Files.Accepted.{unless-done}
@@ -45,14 +46,14 @@ module _ (s : State) (roots cells work file : List ℕ) where
   network-passed e =
       success s roots cells
       (unless-done (leb roots_size (length roots) && (leb work_size (length work) && leb file_size (length file))) ShortBuffer
-      (canonical_answer s roots cells) refl (to-T e)).1
+      (canonical_answer s roots cells) (to-T e)).1
 
   -- and the file has room for its blocks
   pub file-fits : done (write_answer s roots cells work file) ≡ true → block_size * suc (cell_blocks s.count) ≤ length file
   unfolding write_answer
   file-fits e =
       let p = unless-done (leb roots_size (length roots) && (leb work_size (length work) && leb file_size (length file))) ShortBuffer
-      (canonical_answer s roots cells) refl (to-T e) in
+      (canonical_answer s roots cells) (to-T e) in
       let q = and_r (leb roots_size (length roots)) (leb work_size (length work) && leb file_size (length file)) p.0 in
       omega (
         arith,
@@ -69,17 +70,17 @@ module _ (s : State) (roots cells work file : List ℕ) where
 
   -- 10
   not-enough : leb roots_size (length roots) && (leb work_size (length work) && leb file_size (length file)) ≡ false
-      → Ended ShortBuffer work file
+      → Ended (Err ShortBuffer) work file
   unfolding write_answer write_work written_file
   not-enough e = (rw e, (rw e, rw e))
 
-  pub short-roots : length roots < roots_size → Ended ShortBuffer work file
+  pub short-roots : length roots < roots_size → Ended (Err ShortBuffer) work file
   short-roots h = not-enough (rw (lt-leb roots_size (length roots) h))
 
-  pub short-work : length work < work_size → Ended ShortBuffer work file
+  pub short-work : length work < work_size → Ended (Err ShortBuffer) work file
   short-work h = not-enough (rw (lt-leb work_size (length work) h) (and-false (leb roots_size (length roots))))
 
-  pub short-file : length file < file_size → Ended ShortBuffer work file
+  pub short-file : length file < file_size → Ended (Err ShortBuffer) work file
   short-file h =
       not-enough
       (rw (lt-leb file_size (length file) h, and-false (leb work_size (length work))) (and-false (leb roots_size (length roots))))

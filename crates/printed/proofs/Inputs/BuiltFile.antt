@@ -1,5 +1,6 @@
 -- In buffers of the programs' sizes what is read and built is of the input alone: no table is refused for want of cells.
 -- Assumes nothing.
+use Rattle.std.specs.Prelude.{Ok}
 use mathlib.Core.Path.{◌≡◌, refl, sym, ap, ◌∙◌}
 use mathlib.Core.Bool.{true, false, cond}
 use mathlib.Core.List.{List, [], ◌++◌, map}
@@ -15,15 +16,16 @@ use Rattle.lists.proofs.Numbers.UpTo.{length-map-up_to}
 use Rattle.diagram.specs.Networks.Bound.{most_nodes}
 use Rattle.diagram.specs.Networks.Diagram.{Diagram}
 use Rattle.diagram.specs.Table.{network_of}
-use Rattle.table.specs.declared.Answer.TheVariants.{Done}
 use Rattle.table.specs.declared.State.{State}
-use Rattle.table.specs.Answer.{done}
+use Rattle.table.specs.Answer.{done, answer_of}
+use Rattle.table.proofs.Outcomes.{outcome-answer, answered-ok}
+use Rattle.table.proofs.Variants.{refused-first, done-first}
 use Rattle.table.specs.Stream.{table_of}
 use Rattle.table.specs.File.{file_inputs, file_outputs, file_answer}
 use Rattle.table.specs.Calls.{plane_size, load_answer, loaded_state, load_outcome, load_values, load_care}
 use Rattle.fill.specs.Work.{work_size, zero_work}
 use Rattle.lent.specs.Lent.{numbers_of, roots_size}
-use Rattle.network.specs.Build.{network_state, held_network, wanted, capacity, build_answer}
+use Rattle.network.specs.Build.{network_state, held_network, wanted, capacity, build_answer, build_outcome}
 use Rattle.network.proofs.Building.HeldRead.{wanted-nodes}
 use Rattle.network.proofs.Building.Outcomes.{done-outcome, done-roots, done-cells, work-cleared}
 use Rattle.text.specs.Written.{Written}
@@ -32,7 +34,7 @@ use Rattle.printed.specs.Input.{too_long, input_answer, input_outcome, input_val
 use Rattle.printed.specs.Built.{values_plane, care_plane, file_network, network_held, output_values}
 use Rattle.printed.specs.Built.{output_care, output_work, output_roots, output_cells, Whole}
 use Rattle.printed.specs.BuiltInput.{read, is_read, built_outcome, built_work, built_roots, built_cells}
-use Rattle.printed.proofs.Inputs.LoadedInput.{loaded-order, read-accepted, read-state}
+use Rattle.printed.proofs.Inputs.LoadedInput.{loaded-order, read-accepted}
 use Rattle.printed.proofs.Inputs.BoardEnough.{answer-done}
 use Rattle.printed.proofs.Texts.WholeTexts.{whole-text}
 
@@ -80,9 +82,14 @@ module _ (file values care work roots cells : List ℕ) (v : length values ≡ p
   unfolding load_answer
   load-file = rw (le-leb plane_size (length values) (omega arith), le-leb plane_size (length care) (omega arith))
 
-  read_answer : (read file values care).answer ≡ input_answer file
+  read_answer : answer_of (read file values care) ≡ input_answer file
   unfolding input_outcome load_outcome input_answer
-  read_answer = split (too_long file) (λ e. rw e) (λ e. rw (e, load-file))
+  read_answer =
+      split (too_long file) (λ e. rw e)
+      (λ e. rw e (outcome-answer (load_answer file values care) (loaded_state file) ∙ load-file))
+
+  read-done : is_read file values care ≡ done (input_answer file)
+  read-done = sym (answered-ok (read file values care)) ∙ ap done read_answer
 
   values-left : input_values file values care ≡ output_values file values
   unfolding input_values load_values input_answer
@@ -95,22 +102,19 @@ module _ (file values care work roots cells : List ℕ) (v : length values ≡ p
   -- an input that is accepted
   module _ (e : done (input_answer file) ≡ true) where
     was_read : is_read file values care ≡ true
-    was_read = ap done read_answer ∙ e
+    was_read = read-done ∙ e
 
     pub accepted : done (file_answer file) ≡ true
     accepted = read-accepted file values care was_read
 
     abbrev s : State
-    s = (read file values care).state
+    s = loaded_state file
 
     abbrev vs : List ℕ
     vs = input_values file values care
 
     abbrev cs : List ℕ
     cs = input_care file values care
-
-    state-file : s ≡ loaded_state file
-    state-file = read-state file values care was_read
 
     values-file : vs ≡ values_plane file []
     values-file = values-left ∙ rw e (plane-exact _ values v)
@@ -122,7 +126,7 @@ module _ (file values care work roots cells : List ℕ) (v : length values ≡ p
     care-file = care-left ∙ rw e (plane-exact _ care c)
 
     network-file : held_network s vs cs ≡ file_network file
-    network-file = (λ i. held_network (state-file i) (values-file i) (care-file i)) ∙ network-loaded file accepted
+    network-file = (λ i. held_network s (values-file i) (care-file i)) ∙ network-loaded file accepted
 
     wanted-file : wanted s vs cs ≡ length (file_network file).nodes
     wanted-file = wanted-nodes s vs cs ∙ ap (λ (D : Diagram). length D.nodes) network-file
@@ -130,12 +134,12 @@ module _ (file values care work roots cells : List ℕ) (v : length values ≡ p
     board : most_nodes ≤ capacity cells
     board = omega arith
 
-    builds : build_answer s vs cs work roots cells ≡ Done (wanted s vs cs)
+    builds : build_answer s vs cs work roots cells ≡ Ok (wanted s vs cs)
     builds = answer-done file values care work roots cells w r board was_read
 
     pub work-read : built_work file values care work roots cells ≡ zero_work work
     unfolding built_work
-    work-read = rw was_read (sym (work-cleared s vs cs work roots cells (Done (wanted s vs cs)) builds refl))
+    work-read = rw was_read (sym (work-cleared s vs cs work roots cells (Ok (wanted s vs cs)) builds refl))
 
     pub roots-read : built_roots file values care work roots cells ≡ over (λ j. get_or (file_network file).roots j 0) roots_size roots
     unfolding built_roots
@@ -153,21 +157,25 @@ module _ (file values care work roots cells : List ℕ) (v : length values ≡ p
 
     -- the state after the build holds the input's network
     pub outcome-read : built_outcome file values care work roots cells
-        ≡ record { answer = Done (length (file_network file).nodes); state = network_held file }
+        ≡ Ok (record { value = length (file_network file).nodes; state = network_held file })
     unfolding built_outcome
     outcome-read =
-        rw was_read
-        (sym (done-outcome s vs cs work roots cells builds)
-        ∙ (λ i. record { answer = Done (wanted-file i); state = network_state (state-file i) (wanted-file i) }))
+        done-first (read file values care) (build_outcome s vs cs work roots cells) was_read
+        ∙ sym (done-outcome s vs cs work roots cells builds)
+        ∙ (λ i. Ok (record { value = wanted-file i; state = network_state s (wanted-file i) }))
 
   -- what is left in the buffers of the build
 
   unread : done (input_answer file) ≡ false → is_read file values care ≡ false
-  unread e = ap done read_answer ∙ e
+  unread e = read-done ∙ e
 
-  pub outcome-unread : done (input_answer file) ≡ false → (built_outcome file values care work roots cells).answer ≡ input_answer file
+  pub outcome-unread : done (input_answer file) ≡ false
+      → answer_of (built_outcome file values care work roots cells) ≡ input_answer file
   unfolding built_outcome
-  outcome-unread e = rw (unread e) read_answer
+  outcome-unread e =
+      ap answer_of (refused-first (read file values care)
+      (build_outcome (loaded_state file) (input_values file values care) (input_care file values care) work roots cells) (unread e))
+      ∙ read_answer
 
   pub work-left : built_work file values care work roots cells ≡ output_work file work
   unfolding built_work

@@ -1,5 +1,6 @@
 -- An input that is read leaves a state that holds a table, and planes as long as those lent.
 -- Assumes nothing.
+use Rattle.std.specs.Prelude.{Ok, is_ok}
 use mathlib.Core.Path.{◌≡◌, sym, ap, ◌∙◌}
 use mathlib.Core.Bool.{true, false, ◌&&◌}
 use mathlib.Core.List.{List}
@@ -9,7 +10,9 @@ use lib.Dec.{leb}
 use lib.ListN.{length}
 use Rattle.lists.proofs.Bools.{split, to-T, of_T, absurd-T, and_l, and_r}
 use Rattle.lists.proofs.Written.Over.{length_over}
+use Rattle.table.specs.declared.Done.{Done}
 use Rattle.table.specs.Answer.{done}
+use Rattle.table.proofs.Outcomes.{outcome-ok, outcome-done}
 use Rattle.table.specs.State.{order_of, stage_of, is_nothing}
 use Rattle.table.specs.File.{file_inputs, file_outputs, file_order, stream_blocks, stream_byte, file_answer}
 use Rattle.table.specs.Calls.{plane_size, load_answer, loaded_state, load_outcome, load_values, load_care}
@@ -48,19 +51,14 @@ module _ (file values care : List ℕ) (e : is_read file values care ≡ true) w
   -- is loaded
   loads : done (load_answer file values care) ≡ true
   unfolding input_outcome load_outcome
-  loads = rw short at e
+  loads = sym (outcome-ok (load_answer file values care) (loaded_state file)) ∙ (rw short at e)
 
   pub read-accepted : done (file_answer file) ≡ true
   read-accepted = file-accepted file values care loads
 
-  -- the state is the file's
-  pub read-state : (read file values care).state ≡ loaded_state file
-  unfolding input_outcome load_outcome
-  read-state = rw (short, loads)
-
-  -- and holds a table
-  pub read_held : is_nothing (stage_of (read file values care).state) ≡ false
-  read_held = ap (λ s. is_nothing (stage_of s)) read-state ∙ loaded-held file read-accepted
+  -- the state, which is the file's, holds a table
+  pub read_held : is_nothing (stage_of (loaded_state file)) ≡ false
+  read_held = loaded-held file read-accepted
 
   -- the planes lent are long enough
 
@@ -86,3 +84,10 @@ module _ (file values care : List ℕ) (e : is_read file values care ≡ true) w
   care-length =
       let blocks = stream_blocks (file_inputs file) (file_outputs file) in
       rw (short, loads) (length_over (stream_byte file (1 + blocks) blocks) plane_size care care-long)
+
+-- the state that is read is the file's
+pub read-state : (file values care : List ℕ) (r : Done) → read file values care ≡ Ok r → r.state ≡ loaded_state file
+unfolding input_outcome load_outcome
+read-state file values care r e =
+    let q = short file values care (ap is_ok e) in
+    (outcome-done (load_answer file values care) (loaded_state file) r (rw q at e)).1

@@ -1,6 +1,6 @@
 -- In buffers of the printing program's sizes the output is that of the input alone: no text is cut.
 -- Assumes nothing.
-use mathlib.Core.Path.{◌≡◌, ap, ◌∙◌, subst}
+use mathlib.Core.Path.{◌≡◌, sym, ap, ◌∙◌, subst}
 use mathlib.Core.Bool.{true, false}
 use mathlib.Core.List.{List, [], ◌++◌}
 use Prim.Native.Nat.{ℕ, ◌*◌, ◌≤◌}
@@ -8,8 +8,8 @@ use native.Mathlib.Omega.{arith}
 use lib.ListN.{length, drop}
 use Rattle.lists.proofs.Bools.{to-not}
 use Rattle.diagram.specs.Networks.Bound.{most_nodes}
-use Rattle.table.specs.declared.Outcome.{Outcome}
 use Rattle.table.specs.Answer.{done}
+use Rattle.table.proofs.Outcomes.{answered-ok}
 use Rattle.table.specs.File.{file_inputs, file_outputs}
 use Rattle.table.specs.Calls.{plane_size, loaded_state}
 use Rattle.fill.specs.Work.{work_size}
@@ -23,13 +23,8 @@ use Rattle.printed.specs.Inner.Printed.{outcome_text, printed_text}
 use Rattle.printed.proofs.Inputs.LoadedInput.{loaded-order, loaded-held}
 use Rattle.printed.proofs.Inputs.BuiltFile as built
 use Rattle.printed.proofs.Texts.FileText.{text-after}
+use Rattle.printed.proofs.Texts.OutputCases.{unbuilt-text}
 use Rattle.printed.proofs.Texts.NeverCut.{printed-fits}
-
--- a refusal's text is its line
-unbuilt-text : (r : Outcome) (care roots cells : List ℕ) → done r.answer ≡ false
-    → outcome_text r care roots cells ≡ refused_line r.answer
-unfolding outcome_text
-unbuilt-text r care roots cells e = rw e
 
 -- buffers as the program lends them
 module _ (file values care work roots cells : List ℕ) (v : length values ≡ plane_size) (c : length care ≡ plane_size)
@@ -58,7 +53,8 @@ module _ (file values care work roots cells : List ℕ) (v : length values ≡ p
   text-unread e =
       let a = built.outcome-unread file values care work roots cells v c w r k e in
       unbuilt-text (built_outcome file values care work roots cells) (input_care file values care)
-      (built_roots file values care work roots cells) (built_cells file values care work roots cells) (ap done a ∙ e)
+      (built_roots file values care work roots cells) (built_cells file values care work roots cells)
+      (sym (answered-ok (built_outcome file values care work roots cells)) ∙ ap done a ∙ e)
       ∙ ap refused_line a
 
   text-left : printed_text file values care work roots cells ≡ output_of file

@@ -1,7 +1,8 @@
 -- Whatever is read and lent, what the printing program prints has room in the buffer of its text.
 -- Assumes nothing.
-use mathlib.Core.Path.{◌≡◌, sym, subst}
-use mathlib.Core.Bool.{true, not, ◌&&◌}
+use Rattle.std.specs.Prelude.{Ok, is_ok}
+use mathlib.Core.Path.{◌≡◌, ◌∙◌, subst}
+use mathlib.Core.Bool.{false, not}
 use mathlib.Core.List.{List, ◌++◌}
 use Prim.Native.Nat.{ℕ, ◌*◌, ◌^◌, ◌≤◌, ◌<◌}
 use native.Mathlib.Omega.{arith}
@@ -9,34 +10,32 @@ use lib.Dec.{T, leb}
 use lib.ListN.{length, get_or, drop}
 use lib.Seq.{get_or-take}
 use Rattle.lists.specs.Written.{over}
-use Rattle.lists.proofs.Bools.{split, to-T, absurd-T}
+use Rattle.lists.proofs.Bools.{split}
 use Rattle.lists.proofs.Numbers.Sums.{sum-digits}
 use Rattle.diagram.specs.Networks.Bound.{most_variables, most_outputs}
 use Rattle.diagram.proofs.Orders.Order.{order-at}
-use Rattle.table.specs.declared.Answer.{Answer}
-use Rattle.table.specs.declared.Answer.TheVariants.{Done}
-use Rattle.table.specs.declared.Outcome.{Outcome}
+use Rattle.table.specs.Answer.{Answer}
 use Rattle.table.specs.declared.State.{State}
-use Rattle.table.specs.Answer.{number, value, done}
+use Rattle.table.specs.Answer.{number, value, done, answer_of}
 use Rattle.block.specs.Bits.{stream_bit}
 use Rattle.table.specs.Stream.{cared_bits}
 use Rattle.table.specs.State.{order_of, stage_of, is_nothing}
-use Rattle.table.specs.Calls.{plane_size, cared_answer}
+use Rattle.table.specs.Calls.{plane_size, cared_answer, loaded_state}
 use Rattle.table.proofs.Held.{few-inputs, few-outputs, few_bits, ordered}
-use Rattle.table.proofs.Variants.{number-few}
-use Rattle.fill.specs.Work.{work_size}
+use Rattle.table.proofs.Outcomes.{outcome-ok}
+use Rattle.table.proofs.Variants.{number-few, refused-first, done-first}
 use Rattle.lent.specs.Lent.{numbers_of, roots_size}
 use Rattle.network.specs.Build.{network_state}
-use Rattle.network.specs.Build.{held_network, wanted, capacity, build_answer, build_outcome, build_roots, build_cells}
+use Rattle.network.specs.Build.{held_network, wanted, build_answer, build_outcome, build_roots, build_cells}
 use Rattle.network.proofs.Building.HeldRead.{few-wanted}
-use Rattle.network.proofs.Building.Outcomes.{done-outcome, done-roots, done-cells}
-use Rattle.text.specs.Text.{network_text}
+use Rattle.network.proofs.Building.Outcomes.{succeeded, done-outcome, done-roots, done-cells}
 use Rattle.printed.specs.Input.{input_values, input_care}
 use Rattle.printed.specs.Built.{refused-keyword, refused_line}
 use Rattle.printed.specs.Output.{text_size}
 use Rattle.printed.specs.BuiltInput.{read, is_read, built_outcome, built_roots, built_cells}
 use Rattle.printed.specs.Inner.Printed.{outcome_text, printed_text}
 use Rattle.printed.proofs.Texts.SmallNumbers.{cell-small, root-small}
+use Rattle.printed.proofs.Texts.OutputCases.{unbuilt-text}
 use Rattle.printed.proofs.Texts.TextLength.{spaced-two, line-few, network-fits}
 
 -- a refusal's line is short
@@ -64,49 +63,42 @@ entry-few s held i h =
     omega (arith, order-at s.n (order_of s) (ordered s held) i h, get_or-take s.n s.order i 0 h, few-inputs s held)
 
 module _ (s : State) (values care work roots cells : List ℕ) where
-  -- a success is of a table that is held
-  success : done (build_outcome s values care work roots cells).answer ≡ true
-      → T (not (is_nothing (stage_of s))) × (build_answer s values care work roots cells ≡ Done (wanted s values care))
-  unfolding build_outcome build_answer
-  success e =
-      split
-      (leb plane_size (length values) && (leb plane_size (length care) && (leb work_size (length work) && leb roots_size (length roots))))
-      (λ a. split (not (is_nothing (stage_of s)))
-      (λ b. split (leb (wanted s values care) (capacity cells)) (λ c. (to-T b, rw (a, b, c)))
-      (λ c. absurd-T {b = true} tt (sym (rw (a, b, c) at e))))
-      (λ b. absurd-T {b = true} tt (sym (rw (a, b) at e))))
-      (λ a. absurd-T {b = true} tt (sym (rw a at e)))
-
-  module _ (held : T (not (is_nothing (stage_of s)))) (e : build_answer s values care work roots cells ≡ Done (wanted s values care)) where
+  module _ (held : T (not (is_nothing (stage_of s)))) (e : build_answer s values care work roots cells ≡ Ok (wanted s values care)) where
     -- the text with the state, the roots and the cells that the build leaves
-    abbrev text_of : Outcome → List ℕ → List ℕ → List ℕ
-    text_of o r c = network_text o.state (value (cared_answer o.state care)) r c
-
-    network-length : length (text_of (build_outcome s values care work roots cells) (build_roots s values care work roots cells)
-        (build_cells s values care work roots cells)) ≤ text_size
+    network-length : length (outcome_text (build_outcome s values care work roots cells) care
+        (build_roots s values care work roots cells) (build_cells s values care work roots cells)) ≤ text_size
+    unfolding outcome_text
     network-length =
         let t = network_state s (wanted s values care) in
         let o = done-outcome s values care work roots cells e in
         let r = done-roots s values care work roots cells e in
         let c = done-cells s values care work roots cells e in
-        subst (λ (l : List ℕ). length l ≤ text_size) (λ k. text_of (o k) (r k) (c k))
+        subst (λ (l : List ℕ). length l ≤ text_size) (λ k. outcome_text (o k) care (r k) (c k))
         (network-fits t (value (cared_answer t care)) (over (λ j. get_or (held_network s values care).roots j 0) roots_size roots)
         (numbers_of (held_network s values care).nodes ++ drop (3 * wanted s values care) cells)
         (few-inputs s held) (few-outputs s held) (few-wanted s values care held) (cared-few t care (few_bits s held)) (entry-few s held)
         (λ j h. omega (arith, root-small s values care held roots j h)) (λ i h. omega (arith, cell-small s values care held cells i h)))
 
+  refused : done (build_answer s values care work roots cells) ≡ false → is_ok (build_outcome s values care work roots cells) ≡ false
+  unfolding build_outcome
+  refused e = outcome-ok (build_answer s values care work roots cells) (network_state s (wanted s values care)) ∙ e
+
   built-fits : length (outcome_text (build_outcome s values care work roots cells) care (build_roots s values care work roots cells)
       (build_cells s values care work roots cells)) ≤ text_size
-  unfolding outcome_text
   built-fits =
-      split (done (build_outcome s values care work roots cells).answer)
-      (λ e. let u = success e in rw e (network-length u.0 u.1))
-      (λ e. rw e (refused-fits (build_outcome s values care work roots cells).answer))
+      let o = build_outcome s values care work roots cells in
+      split (done (build_answer s values care work roots cells))
+      (λ e. let B = succeeded s values care work roots cells e in network-length B.held B.answer)
+      (λ e. rw (unbuilt-text o care (build_roots s values care work roots cells) (build_cells s values care work roots cells) (refused e))
+      (refused-fits (answer_of o)))
 
 -- whatever is read, and whatever is lent
 pub printed-fits : (file values care work roots cells : List ℕ) → length (printed_text file values care work roots cells) ≤ text_size
-unfolding printed_text outcome_text built_outcome built_roots built_cells
+unfolding printed_text built_outcome built_roots built_cells
 printed-fits file values care work roots cells =
+    let r = read file values care in
+    let b = build_outcome (loaded_state file) (input_values file values care) (input_care file values care) work roots cells in
     split (is_read file values care)
-    (λ e. rw e (built-fits (read file values care).state (input_values file values care) (input_care file values care) work roots cells))
-    (λ e. rw (e, e) (refused-fits (read file values care).answer))
+    (λ e. rw (e, done-first r b e)
+    (built-fits (loaded_state file) (input_values file values care) (input_care file values care) work roots cells))
+    (λ e. rw (e, refused-first r b e, unbuilt-text r (input_care file values care) roots cells e) (refused-fits (answer_of r)))

@@ -1,13 +1,15 @@
 -- The printing program's output, by whether the table is built.
 -- Assumes nothing.
+use Rattle.std.specs.Prelude.{Ok, Err, is_ok}
 use mathlib.Core.Path.{◌≡◌, refl, ap, ◌∙◌}
-use mathlib.Core.Bool.{true, false}
+use mathlib.Core.Bool.{false, true≢false}
 use mathlib.Core.List.{List}
 use Prim.Native.Nat.{ℕ}
-use Rattle.table.specs.declared.Answer.{Answer}
-use Rattle.table.specs.declared.Outcome.{Outcome}
+use Rattle.table.specs.Answer.{Answer}
+use Rattle.table.specs.declared.Refusal.{Refusal}
+use Rattle.table.specs.declared.Done.{Done}
 use Rattle.table.specs.declared.State.{State}
-use Rattle.table.specs.Answer.{number, value, done}
+use Rattle.table.specs.Answer.{Outcome, number, value, answer_of}
 use Rattle.table.specs.Calls.{cared_answer}
 use Rattle.text.specs.Text.{line, network_text}
 use Rattle.text.specs.Written.{Written}
@@ -25,16 +27,23 @@ written-refusal a x e w = written_as (ap (line refused-keyword) e) w
 pub cared-value : (s : State) (care : List ℕ) (a : Answer) (x : ℕ) → a ≡ cared_answer s care → x ≡ value a → x ≡ value (cared_answer s care)
 cared-value s care a x e p = p ∙ ap value e
 
-module _ (r : Outcome) (care roots cells : List ℕ) where
-  pub written-unbuilt : {l m : List ℕ} {i j : ℕ} → done r.answer ≡ false → Written l m i j (refused_line r.answer)
-      → Written l m i j (outcome_text r care roots cells)
+module _ (o : Outcome) (care roots cells : List ℕ) where
+  pub written-unbuilt : {l m : List ℕ} {i j : ℕ} (x : Refusal) → o ≡ Err x → Written l m i j (refused_line (Err x))
+      → Written l m i j (outcome_text o care roots cells)
   unfolding outcome_text
-  written-unbuilt d w = written_as (rw d refl) w
+  written-unbuilt x e w = written_as (rw e refl) w
 
-  pub written-built : {l m : List ℕ} {i j : ℕ} (c : ℕ) → done r.answer ≡ true → c ≡ value (cared_answer r.state care)
-      → Written l m i j (network_text r.state c roots cells) → Written l m i j (outcome_text r care roots cells)
+  pub written-built : {l m : List ℕ} {i j : ℕ} (r : Done) → o ≡ Ok r → (c : ℕ) → c ≡ value (cared_answer r.state care)
+      → Written l m i j (network_text r.state c roots cells) → Written l m i j (outcome_text o care roots cells)
   unfolding outcome_text
-  written-built c d q w = written_as (rw (d, q)) w
+  written-built r e c q w = written_as (rw (e, q)) w
+
+-- a refusal's text is its line
+pub unbuilt-text : (o : Outcome) (care roots cells : List ℕ) → is_ok o ≡ false
+    → outcome_text o care roots cells ≡ refused_line (answer_of o)
+unfolding outcome_text
+unbuilt-text (Ok r) care roots cells d = absurd (true≢false d)
+unbuilt-text (Err x) care roots cells d = refl
 
 -- the text of what an input leaves
 pub printed-of : (file values care work roots cells : List ℕ) (r : Outcome) (care' roots' cells' : List ℕ)

@@ -142,8 +142,8 @@ module _ (s : State) (limit : ℕ) (values care : List ℕ) (g : T (good_heading
             limited = omega (arith, more-tried);
           }
 
-      pub running-less : q.turns ≡ p.turns + 1
-      running-less = omega (arith, one_more)
+      pub running-more : q.turns ≡ p.turns + 1
+      running-more = omega (arith, one_more)
 
     -- it stops where all are sifted, or where the limit has no room
     pub running-stop : (p.turns < s.n → limit < p.tried + s.n) → p ≡ progress_of s values care (pass_of s limit values care)

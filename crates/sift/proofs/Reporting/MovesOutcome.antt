@@ -1,5 +1,6 @@
 -- The outcome of a report of all moves by what it is refused for, and what it owes where it isn't.
 -- Assumes nothing.
+use Rattle.std.specs.Prelude.{Ok, Err}
 use mathlib.Core.Path.{◌≡◌, refl, sym, ap, ap₂, ◌∙◌, subst}
 use mathlib.Core.Bool.{true, false, not}
 use mathlib.Core.List.{List}
@@ -19,8 +20,8 @@ use Rattle.diagram.specs.Table.{Table, cost}
 use Rattle.diagram.specs.Orders.Sift.{sift}
 use Rattle.diagram.proofs.Orders.Order.{index_below}
 use Rattle.diagram.proofs.Orders.Moves.{gain-entry, gain-stays, gain-smallest, gain-lowest, moved-least}
-use Rattle.table.specs.declared.Answer.{Answer}
-use Rattle.table.specs.declared.Answer.TheVariants.{Done, ShortBuffer, NoTable, ShortGains}
+use Rattle.table.specs.Answer.{Answer}
+use Rattle.table.specs.declared.Refusal.TheVariants.{ShortBuffer, NoTable, ShortGains}
 use Rattle.table.specs.declared.State.{State}
 use Rattle.table.specs.Answer.{value, done}
 use Rattle.table.specs.State.{order_of, stage_of, is_nothing}
@@ -40,17 +41,17 @@ Reports s gains values care work r left after =
     × ((after ≡ moves_work s gains values care work) × (done r ≡ true → Reported s values care work left)))
 
 module _ (s : State) (gains : List ℤ) (values care work : List ℕ) where
-  pub moves-short : enough values care work ≡ false → Reports s gains values care work ShortBuffer gains work
+  pub moves-short : enough values care work ≡ false → Reports s gains values care work (Err ShortBuffer) gains work
   unfolding moves_answer moves_gains moves_work
   moves-short e = (rw e, (rw e, (rw e, λ d. absurd-T (to-T d) refl)))
 
   pub moves-no-table : enough values care work ≡ true → not (is_nothing (stage_of s)) ≡ false
-      → Reports s gains values care work NoTable gains work
+      → Reports s gains values care work (Err NoTable) gains work
   unfolding moves_answer moves_gains moves_work
   moves-no-table e h = (rw (e, h), (rw (e, h), (rw (e, h), λ d. absurd-T (to-T d) refl)))
 
   module _ (e : enough values care work ≡ true) (h : not (is_nothing (stage_of s)) ≡ true) where
-    pub moves-few : length gains < s.n * s.n → Reports s gains values care work ShortGains gains work
+    pub moves-few : length gains < s.n * s.n → Reports s gains values care work (Err ShortGains) gains work
     unfolding moves_answer moves_gains moves_work
     moves-few l =
         let f : leb (s.n * s.n) (length gains) ≡ false = lt-leb (s.n * s.n) (length gains) l in
@@ -104,7 +105,7 @@ module _ (s : State) (gains : List ℤ) (values care work : List ℕ) where
           }
 
       pub moves-done : s.n * s.n ≤ length gains → (after : List ℕ) → after ≡ zero_work work
-          → Reports s gains values care work (Done 0) left after
+          → Reports s gains values care work (Ok 0) left after
       unfolding moves_answer moves_gains moves_work
       moves-done l after z =
           let f : leb (s.n * s.n) (length gains) ≡ true = le-leb (s.n * s.n) (length gains) l in

@@ -1,40 +1,36 @@
--- The level of a variable, looked for one entry after the other.
+-- The level of a variable, as std's `position` finds it among the entries of an order.
 -- Assumes nothing.
-use mathlib.Core.Path.{◌≡◌, sym, ap, ◌∙◌}
+use mathlib.Core.Path.{◌≡◌, refl, sym, ap, ◌∙◌}
+use mathlib.Core.Bool.{cond, not}
 use mathlib.Core.List.{List}
-use Prim.Native.Nat.{ℕ, suc, ◌+◌, ◌≤◌, ◌<◌}
-use native.Mathlib.Numerals.{add-one}
+use Prim.Native.Nat.{ℕ, ◌≤◌, min}
 use native.Mathlib.Omega.{arith}
-use borrow.Author.Tests.{eq-eqb, ne_eqb}
-use lib.Dec.{eqb}
-use lib.ListN.{length, get_or, take}
+use borrow.Author.Tests.{ltb-true, ltb-false}
+use lib.Dec.{eqb, ltb}
+use lib.ListN.{length, take}
 use lib.Seq.{take_all}
+use Rattle.std.specs.Prelude.{Option, Some, None}
+use Rattle.std.specs.Option.{unwrap_or}
+use Rattle.std.specs.List.{position_or_len}
+use Rattle.std.proofs.lemmas.List.Sums.{prefix_len-le-length}
+use Rattle.std.proofs.lemmas.List.Recursion.{is_position_or_len}
 use Rattle.lists.specs.Lists.{index}
-use Rattle.lists.proofs.Written.Rest.{rest, rest-cons, rest-none}
+use Rattle.lists.proofs.Bools.{split}
 use Rattle.diagram.specs.Networks.Bound.{most_variables}
 
-index-now : (v : ℕ) (l : List ℕ) (n i : ℕ) → n ≤ length l → i < n → v ≡ get_or l i 0 → index eqb v (rest l n i) ≡ 0
-index-now v l n i k h e = rw (rest-cons l n i k h, eq-eqb v (get_or l i 0) e)
-
-index-later : (v : ℕ) (l : List ℕ) (n i : ℕ) → n ≤ length l → i < n → (v ≡ get_or l i 0 → ⊥)
-    → index eqb v (rest l n i) ≡ suc (index eqb v (rest l n (i + 1)))
-index-later v l n i k h e = rw (add-one, rest-cons l n i k h, ne_eqb v (get_or l i 0) e)
-
-index-none : (v : ℕ) (l : List ℕ) (n i : ℕ) → n ≤ length l → n ≤ i → index eqb v (rest l n i) ≡ 0
-index-none v l n i k h = rw (rest-none l n i k h)
-
--- the entries before level i passed over
-module _ (v : ℕ) (l : List ℕ) (n i : ℕ) (k : n ≤ length l) (p : index eqb v (take n l) ≡ i + index eqb v (rest l n i)) where
-  pub level-here : i < n → v ≡ get_or l i 0 → i ≡ index eqb v (take n l)
-  level-here h e = omega (arith, index-now v l n i k h e)
-
-  pub level-later : i < n → (v ≡ get_or l i 0 → ⊥) → index eqb v (take n l) ≡ i + 1 + index eqb v (rest l n (i + 1))
-  level-later h e = omega (arith, index-later v l n i k h e)
-
-  pub level-none : n ≤ i → i ≡ index eqb v (take n l)
-  level-none h = omega (arith, index-none v l n i k h)
+-- the first v, or the length where there is none
+pub found-index : (v : ℕ) (l : List ℕ) (r : Option ℕ)
+    → r ≡ cond (ltb (position_or_len (eqb v) l) (length l)) (Some (position_or_len (eqb v) l)) None
+    → unwrap_or r (length l) ≡ index eqb v l
+found-index v l r e =
+    let p : index eqb v l ≡ position_or_len (eqb v) l = is_position_or_len (index eqb v) (eqb v) refl (λ x xs. ap (cond (eqb v x) 0) (omega arith)) l in
+    split (ltb (position_or_len (eqb v) l) (length l)) (λ q. rw (e, q) (sym p))
+    (λ q. rw (e, q) (omega (arith, p, ltb-false (position_or_len (eqb v) l) (length l) q, prefix_len-le-length (λ x. not (eqb v x)) l)))
 
 -- of an array of entries no more are used than there are
-pub level-past : (v n : ℕ) (l : List ℕ) (r : ℕ) → most_variables < n → length l ≤ most_variables
-    → r ≡ index eqb v (take most_variables l) → r ≡ index eqb v (take n l)
-level-past v n l r h e p = p ∙ ap (index eqb v) (take_all most_variables l e ∙ sym (take_all n l (omega (arith, e, h))))
+pub entries-held : (n : ℕ) (l : List ℕ) → length l ≤ most_variables → take (min n most_variables) l ≡ take n l
+entries-held n l h =
+    split (ltb most_variables n)
+    (λ q. let k : min n most_variables ≡ most_variables = omega (arith, ltb-true most_variables n q) in
+    ap (λ (j : ℕ). take j l) k ∙ take_all most_variables l h ∙ sym (take_all n l (omega (arith, ltb-true most_variables n q))))
+    (λ q. ap (λ (j : ℕ). take j l) (omega (arith, ltb-false most_variables n q)))

@@ -1,12 +1,13 @@
 -- The cared bits counted a word at a time, and what `cared` answers.
 -- Assumes nothing.
+use Rattle.std.specs.Prelude.{Ok}
 use mathlib.Core.Path.{◌≡◌, sym, ap, ◌∙◌, subst}
-use mathlib.Core.Bool.{true, false, not}
+use mathlib.Core.Bool.{true, not}
 use mathlib.Core.List.{List}
 use Prim.Native.Nat.{ℕ, ◌+◌, ◌*◌, ◌-◌, ◌%◌, ◌^◌, ◌≤◌, ◌<◌, min}
 use native.Mathlib.Nat.{le_trans, mod-lt, mod-eq_of_lt}
 use native.Mathlib.Omega.{arith}
-use borrow.Author.Tests.{le-leb, lt-leb}
+use borrow.Author.Tests.{le-leb}
 use lib.Bits.{bit_and, and_mask}
 use lib.Count.{ones, ones-le}
 use lib.Pow.{pow_pos}
@@ -15,7 +16,6 @@ use Rattle.lists.specs.Bits.{digit}
 use Rattle.lists.specs.Sums.{sum_below}
 use Rattle.lists.proofs.Bits.Digits.{one_shifted}
 use Rattle.table.specs.declared.State.{State}
-use Rattle.table.specs.declared.Answer.TheVariants.{Done, ShortBuffer, NoTable}
 use Rattle.block.specs.Bits.{stream_bit, word_of}
 use Rattle.table.specs.Stream.{cared_bits}
 use Rattle.table.specs.State.{stage_of, is_nothing}
@@ -49,24 +49,13 @@ module _ (bytes : List ℕ) (small : (i : ℕ) → get_or bytes i 0 < 256) (w bi
       counted (bits - 64 * w) (omega arith) (omega arith) (bit_and x (1 * 2 ^ (bits - 64 * w) % 2 ^ 64 - 1))
       (ap (λ (z : ℕ). bit_and x (z - 1)) (one_shifted (bits - 64 * w) h) ∙ and_mask x (bits - 64 * w))
 
-pub bits_fit : (m n : ℕ) → m * 2 ^ n ≤ most_bits → m * 2 ^ n % 2 ^ 64 ≤ most_bits
-bits_fit m n h = let l : m * 2 ^ n < 2 ^ 64 = omega arith in rw (mod-eq_of_lt l) h
-
 -- the answer by what it is refused for
 
 module _ (s : State) (care : List ℕ) where
-  pub cared-short : length care < plane_size → cared_answer s care ≡ ShortBuffer
-  unfolding cared_answer
-  cared-short h = rw (lt-leb plane_size (length care) h)
-
-  pub cared-no-table : plane_size ≤ length care → not (is_nothing (stage_of s)) ≡ false → cared_answer s care ≡ NoTable
-  unfolding cared_answer
-  cared-no-table h e = rw (le-leb plane_size (length care) h, e)
-
   pub cared-done : plane_size ≤ length care → not (is_nothing (stage_of s)) ≡ true → s.m * 2 ^ s.n ≤ most_bits → (x : ℕ)
-      → x ≡ sum_below (λ i. digit (stream_bit care i)) (s.m * 2 ^ s.n % 2 ^ 64) → cared_answer s care ≡ Done x
+      → x ≡ sum_below (λ i. digit (stream_bit care i)) (s.m * 2 ^ s.n % 2 ^ 64) → cared_answer s care ≡ Ok x
   unfolding cared_answer cared_bits
   cared-done h e l x d =
       let k : s.m * 2 ^ s.n < 2 ^ 64 = omega arith in
       rw (le-leb plane_size (length care) h, e)
-      (ap Done (ap (sum_below (λ i. digit (stream_bit care i))) (sym (mod-eq_of_lt k)) ∙ sym d))
+      (ap Ok (ap (sum_below (λ i. digit (stream_bit care i))) (sym (mod-eq_of_lt k)) ∙ sym d))

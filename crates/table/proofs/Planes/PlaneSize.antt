@@ -1,10 +1,11 @@
 -- The bytes of a plane, and a plane that is written over.
 -- Assumes nothing.
-use mathlib.Core.Path.{◌≡◌, refl, ap, ◌∙◌}
-use mathlib.Core.List.{List}
+use mathlib.Core.Path.{◌≡◌, refl, sym, ap, ap₂, ◌∙◌}
+use mathlib.Core.List.{List, [], ◌++◌, map, append-nil}
 use Prim.Native.Nat.{ℕ, ◌≤◌}
 use native.Mathlib.Omega.{arith}
-use lib.ListN.{length}
+use lib.ListN.{length, take, drop, length-take, drop_of_length-le}
+use Rattle.lists.specs.Lists.{up_to}
 use Rattle.lists.specs.Written.{over}
 use Rattle.lists.proofs.Written.Over.{length_over}
 use Rattle.table.specs.Calls.{plane_size}
@@ -15,9 +16,12 @@ unfolding plane_size
 plane-size = refl
 
 -- a plane that is written over as far as byte i
-module _ (f : ℕ → ℕ) (l plane : List ℕ) (i : ℕ) (e : plane ≡ over f i l) (h : i ≤ plane_size) where
-  pub plane-length : plane_size ≤ length l → length plane ≡ length l
-  plane-length k = ap length e ∙ length_over f i l (omega arith)
-
-  pub plane-whole : plane_size ≤ i → plane ≡ over f plane_size l
-  plane-whole k = let d : i ≡ plane_size = omega arith in e ∙ ap (λ (n : ℕ). over f n l) d
+-- a plane of which the front is written over
+pub plane-written : (f : ℕ → ℕ) (l front : List ℕ) (i : ℕ) → plane_size ≤ length l → i ≡ length (take 2048 l)
+    → front ≡ over f i (take 2048 l) → front ++ drop 2048 l ≡ over f plane_size l
+plane-written f l front i h d e =
+    let k : length (take 2048 l) ≡ plane_size = omega (arith, plane-size, length-take 2048 l) in
+    let z : drop i (take 2048 l) ≡ [] = drop_of_length-le (take 2048 l) {i = i} (omega arith) in
+    ap (λ (m : List ℕ). m ++ drop 2048 l)
+    (e ∙ ap (λ (m : List ℕ). map f (up_to i) ++ m) z ∙ append-nil (map f (up_to i)))
+    ∙ ap₂ (λ (j n : ℕ). map f (up_to j) ++ drop n l) (d ∙ k) (sym plane-size)

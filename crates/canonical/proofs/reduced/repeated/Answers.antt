@@ -1,7 +1,5 @@
-use borrow.Author.Rules.{rules}
-use mathlib.Core.Path.{◌≡◌, sym, ap, ◌∙◌}
-use Prim.Native.Nat.{ℕ}
-use native.Mathlib.Omega.{arith}
+use Rattle.std.proofs.Common.{◌≡◌, sym, ap, ◌∙◌, arith, ℕ, rules}
+use mathlib.Core.Path.{ap₂}
 use Rattle.lists.specs.Lists.{has}
 use Rattle.diagram.specs.Networks.Diagram.{same_node}
 use Rattle.lent.specs.Lent.{lent_node}
@@ -10,25 +8,20 @@ use Rattle.canonical.proofs.Nodes.{repeated-none, repeated-more, repeated-at}
 use Rattle.canonical.proofs.reduced.repeated.Goals as goal
 
 pub loop-j-init : goal.loop-j-init
-loop-j-init c =
-    let a = c.args in (search rules, repeated-none a.cells.now a.i)
+loop-j-init c = repeated-none c.args.cells.now c.args.i
 
-pub returns-then-same_node : goal.returns-then-same_node
-returns-then-same_node c =
-    let a = c.args in
-    let s = c.same_node in
-    sym (repeated-at a.cells.now a.i c.loop-j.j (search rules) (sym s.ensures ∙ c.if-same_node.true))
+pub returns-then-eq : goal.returns-then-eq
+returns-then-eq c =
+    let same = sym (ap₂ same_node c.node_at-node.ensures c.node_at.ensures) ∙ sym c.eq.ensures ∙ c.if-eq.true in
+    sym (repeated-at c.args.cells.now c.args.i c.loop-j.j (search rules) same)
 
 pub loop-j-preserved : goal.loop-j-preserved
 loop-j-preserved c =
-    let a = c.args in
-    let l = c.loop-j in
-    let s = c.same_node in
-    (search rules, repeated-more a.cells.now a.i l.j l.invariant.1 (sym s.ensures ∙ c.if-same_node.false))
+    repeated-more c.args.cells.now c.args.i c.loop-j.j c.loop-j.invariant
+    (sym (ap₂ same_node c.node_at-node.ensures c.node_at.ensures) ∙ sym c.eq.ensures ∙ c.if-eq.false)
 
 pub returns : goal.returns
 returns c =
-    let a = c.args in
-    let l = c.loop-j in
-    let e : l.j ≡ a.i = omega arith in
-    sym l.invariant.1 ∙ ap (λ (k : ℕ). has same_node (lent_node a.cells.now a.i) (lent_nodes a.cells.now k)) e
+    let e : c.loop-j.j ≡ c.args.i = omega arith in
+    sym c.loop-j.invariant
+    ∙ ap (λ (k : ℕ). has same_node (lent_node c.args.cells.now c.args.i) (lent_nodes c.args.cells.now k)) e

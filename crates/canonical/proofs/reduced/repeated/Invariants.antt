@@ -2,7 +2,6 @@
 -- Assumes nothing.
 use mathlib.Core.Path.{◌≡◌}
 use mathlib.Core.Bool.{false}
-use Prim.Native.Nat.{◌≤◌, ◌-◌}
 use Rattle.lists.specs.Lists.{has}
 use Rattle.diagram.specs.Networks.Diagram.{same_node}
 use Rattle.lent.specs.Lent.{lent_node}
@@ -10,4 +9,4 @@ use Rattle.canonical.specs.Inner.Reduced.{lent_nodes}
 use Rattle.canonical.proofs.reduced.repeated.Given as goal
 
 abbrev pub invariant-loop-j : goal.invariant-loop-j
-invariant-loop-j l = (l.j ≤ l.i) × (has same_node (lent_node l.cells l.i) (lent_nodes l.cells l.j) ≡ false)
+invariant-loop-j l = has same_node (lent_node l.cells l.i) (lent_nodes l.cells l.j) ≡ false

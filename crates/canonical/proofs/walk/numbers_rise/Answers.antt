@@ -1,28 +1,33 @@
--- `canonical::walk::numbers_rise` meets its contract: the lists and marks that it lends are zero, a mark for each counted node.
--- Assumes nothing.
-use mathlib.Core.Path.{sym, ap, ◌∙◌, subst}
-use Prim.Native.Nat.{ℕ, ◌+◌, ◌≤◌, ◌<◌}
-use lib.ListN.{get_or}
-use Rattle.canonical.specs.Inner.Walk.{Own}
-use Rattle.canonical.proofs.Listed.{marks-count, lists-room, marks-zero}
-use Rattle.canonical.proofs.Walked.{rises}
+use Rattle.std.proofs.Common.{sym, ◌∙◌, arith, ◌<◌}
+use lib.Seq.{get_or-take, length-take-le}
+use Rattle.canonical.proofs.Walked.{walked-start, walked-end, walked-broken, walked-next}
 use Rattle.canonical.proofs.walk.numbers_rise.Goals as goal
 
-pub walk-requires : goal.walk-requires
-walk-requires c =
+pub loop-p-init : goal.loop-p-init
+loop-p-init c =
     let a = c.args in
-    let e = sym (marks-count a.count c.requires.n_le_most_variables.1) in record {
-      n_le_most_variables = (
-        c.requires.n_le_most_variables.0,
-        marks-zero a.count c.requires.n_le_most_variables.1,
-        subst (λ (k : ℕ). Own k a.cells.now) e c.requires.n_le_most_variables.2,
-      );
-      marks_in_bounds = (lists-room a.count c.requires.n_le_most_variables.1, c.requires.n_le_most_variables.3);
-      by_index = subst (λ (k : ℕ). (j : ℕ) → j < a.m → get_or a.roots.now j 0 ≤ k + k + 1) e c.requires.by_index;
-    }
+    walked-start a.count a.cells.now a.n a.roots.now a.m
+    (λ j h. let lt : j < a.m = omega (arith, h, length-take-le a.m a.roots.now c.requires.few.2) in
+    rw (get_or-take a.m a.roots.now j 0 lt) (c.requires.roots j lt)) _ c.spread_roots.ensures
+
+pub returns-in_default : goal.returns-in_default
+returns-in_default c =
+    let l = c.loop-p in
+    let a = c.args in
+    walked-broken a.count a.cells.now a.n a.roots.now a.m l.below l.next l.p l.invariant c.loop-p-test.true
+    (rw c.copy_to-len.ensures.copied at (sym c.standing_from.ensures ∙ c.in_default.is))
+
+pub loop-p-preserved : goal.loop-p-preserved
+loop-p-preserved c =
+    let l = c.loop-p in
+    let a = c.args in
+    let k = c.copy_to-len.ensures in
+    walked-next a.count a.cells.now a.n a.roots.now a.m l.below l.next l.p l.invariant c.loop-p-test.true c.requires.edges
+    (omega arith) c.in-Some.after (rw k.copied at (sym c.standing_from.ensures ∙ c.in-Some.is)) _
+    (rw k.copied at c.spread_level.ensures)
 
 pub returns : goal.returns
 returns c =
+    let l = c.loop-p in
     let a = c.args in
-    c.walk.ensures
-    ∙ ap (λ (k : ℕ). rises k a.cells.now a.n a.roots.now a.m) (marks-count a.count c.requires.n_le_most_variables.1)
+    walked-end a.count a.cells.now a.n a.roots.now a.m l.below l.next l.p l.invariant c.loop-p-test.false

@@ -7,12 +7,12 @@ use Rattle.table.specs.Answer.{done}
 use Rattle.filed.proofs.FiledCases.{blocks-small, written-file, written-unfiled}
 use Rattle.filed.proofs.output.write_held.Goals as goal
 
-pub returns-then-not-is_done : goal.returns-then-not-is_done
-returns-then-not-is_done c =
+pub returns-then-is_err : goal.returns-then-is_err
+returns-then-is_err c =
     let a = c.args in
     let e = c.write_cells-answer.ensures in record {
       text = written-unfiled a.state a.roots.now a.cells.now a.work.now a.out.now c.write_cells-answer.result _ _ _ e.answer
-          (sym c.is_done.ensures ∙ not-true _ c.if-not-is_done.true-raw) e.file c.refusal.ensures;
+          (c.if-is_err.ensures.negation) e.file c.refusal.ensures;
       work = e.work;
     }
 
@@ -26,6 +26,6 @@ returns c =
     let a = c.args in
     let e = c.write_cells-answer.ensures in record {
       text = written-file a.state a.roots.now a.cells.now a.work.now a.out.now
-          (ap done (sym e.answer) ∙ sym c.is_done.ensures ∙ not-false _ c.if-not-is_done.false-raw) _ _ e.file c.file_blocks.ensures;
+          (ap done (sym e.answer) ∙ c.if-is_err.ensures.negation) _ _ e.file c.file_blocks.ensures;
       work = e.work;
     }

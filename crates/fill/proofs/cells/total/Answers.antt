@@ -1,25 +1,15 @@
-use borrow.Author.Rules.{rules}
-use native.Mathlib.Nat.{zero-add}
-use native.Mathlib.Omega.{arith}
-use Rattle.lists.proofs.Numbers.Total.{sum_more, sum-all}
+-- `fill::cells::total` meets its contract. Assumes nothing.
+use Rattle.std.proofs.Common.{rules, ◌≡◌, ◌∙◌, ◌<◌, ◌^◌}
+use Rattle.std.specs.List.{sum}
 use Rattle.fill.proofs.Buffers.Sizes.{sizes}
+use Rattle.fill.proofs.Counting.CountedCells.{sum_is}
 use Rattle.fill.proofs.cells.total.Goals as goal
 
-pub loop-p-init : goal.loop-p-init
-loop-p-init c =
-    (search rules, zero-add _)
-
-pub overflow_add-cells : goal.overflow_add-cells
-overflow_add-cells c =
-    let l = c.loop-p in
-    omega (sizes, sum_more c.args.counts l.cells l.p l.invariant.1 (omega (arith, c.well_formed.0.1)))
-
-pub loop-p-preserved : goal.loop-p-preserved
-loop-p-preserved c =
-    let l = c.loop-p in
-    (search rules, sum_more c.args.counts l.cells l.p l.invariant.1 (omega (arith, c.well_formed.0.1)))
+pub sum-requires-clause-fits : goal.sum-requires-clause-fits
+sum-requires-clause-fits c =
+    let h : sum c.args.counts < 2 ^ 64 = omega (sizes, sum_is c.args.counts, c.requires) in search rules
 
 pub returns : goal.returns
 returns c =
-    let l = c.loop-p in
-    sum-all c.args.counts l.cells l.p l.invariant.1 (omega (arith, c.well_formed.0.1))
+    let e : c.sum.result ≡ sum c.args.counts = search rules in
+    e ∙ sum_is c.args.counts

@@ -21,14 +21,14 @@ descend-entries-requires c =
     let rest = asks a.state a.values.now a.care.now c.requires.t a.work.now c.requires.work_size_in_bounds
     r.result r.new.work r.ensures.entries
     r.ensures.work in record {
-      n_le_most_variables = (
+      in_bounds = (
         few-inputs a.state c.requires.t,
         omega sizes,
         omega (sizes, c.requires.work_size_in_bounds, r.auto.work),
       );
-      work_value = rest.0;
-      t = rest.1.0;
-      work_bound = rest.1.1;
+      holds_entries = rest.0;
+      has_room = rest.1.0;
+      links_fit = rest.1.1;
     }
 
 pub level_counts-counts-requires : goal.level_counts-counts-requires
@@ -50,9 +50,9 @@ level_counts-counts-requires c =
       ),
     )
 
-pub total-cells-requires : goal.total-cells-requires
+pub total-requires : goal.total-requires
 unfolding links_at
-total-cells-requires c =
+total-requires c =
     let a = c.args in
     let r = c.first_level-count in
     let t = c.descend-entries in
@@ -74,7 +74,7 @@ returns c =
       levels = levels-held a.state a.values.now a.care.now c.requires.t a.work.now c.requires.work_size_in_bounds
           r.result r.new.work r.ensures.entries
           r.ensures.work t.result t.new.work t.ensures.entries t.ensures.work
-          l.result l.ensures c.total-cells.result c.total-cells.ensures;
+          l.result l.ensures c.total.result c.total.ensures;
       work = left-held a.state a.values.now a.care.now c.requires.t a.work.now c.requires.work_size_in_bounds
           r.result r.new.work r.ensures.entries
           r.ensures.work t.result t.new.work t.ensures.entries t.ensures.work;

@@ -18,8 +18,8 @@ zero-requires c =
 pub link_outputs-requires : goal.link_outputs-requires
 link_outputs-requires c =
     let a = c.args.state in record {
-      n_le_most_variables = (few-inputs a c.requires.t, few-outputs a c.requires.t);
-      work_size_in_bounds = omega (sizes, c.requires.work_size_in_bounds, c.zero.auto.l);
+      in_bounds = (few-inputs a c.requires.t, few-outputs a c.requires.t);
+      long_work = omega (sizes, c.requires.work_size_in_bounds, c.zero.auto.l);
     }
 
 pub returns : goal.returns

@@ -1,61 +1,65 @@
 -- `fill::lowering::lower` meets its contract. Assumes nothing.
-use mathlib.Core.Path.{refl, ap}
-use lib.ListN.{set}
-use Rattle.fill.proofs.Buffers.HeldParts.{region-end, regions-apart}
+use Rattle.std.proofs.Common.{◌∙◌, ℕ, suc, ap, sym, subst, set}
+use Rattle.matching.specs.Level.{parts_at}
+use Rattle.fill.proofs.Buffers.HeldParts.{Region, region-end, region-other, region-told, region-met}
 use Rattle.fill.proofs.Lowered.TrialSizes.{trial_sizes}
-use Rattle.fill.proofs.Lowered.LoweredLevel.{exchange-asks, level-asks, lower-leaves}
+use Rattle.fill.proofs.Lowered.LoweredLevel.{exchange-asks, level-asks, level-links, lower-leaves}
 use Rattle.fill.proofs.lowering.lower.Goals as goal
+use Rattle.fill.proofs.lowering.lower.Goals.{Start, After-exchange_kept}
+
+region : (c : Start) → Region c.args.kept.entries.from
+region c = region-told c.args.kept.entries.from c.args.kept.in_region
 
 pub exchange_kept-requires : goal.exchange_kept-requires
 exchange_kept-requires c =
     let a = c.args in
-    let k = a.kept in record {
-      d_bound = c.requires.d_bound.0;
-      d_in_bounds = exchange-asks a.d k.from k.entries a.work.now c.requires.fact.0 c.requires.fact.1 c.requires.t.0 c.requires.t.1;
-    }
+    let k = a.kept.entries in
+    exchange-asks a.d k.from k.count a.work.now (region (goal.at.exchange_kept-requires c).Start) c.requires.long_work c.requires.has_room.0
+    c.requires.has_room.1 c.requires.levels_left.0
 
-pub overflow_sub-to : goal.overflow_sub-to
-overflow_sub-to c =
-    omega (trial_sizes, region-end c.args.kept.from c.requires.fact.0)
+pub overflow_sub-upper : goal.overflow_sub-upper
+overflow_sub-upper c =
+    omega (trial_sizes, region-end c.args.kept.entries.from (region (goal.at.overflow_sub-upper c).Start))
 
 pub level-entries-requires : goal.level-entries-requires
 level-entries-requires c =
     let a = c.args in
-    let k = a.kept in
+    let k = a.kept.entries in
     let r = c.exchange_kept in
-    let t = level-asks a.d k.from k.entries a.work.now c.requires.fact.0 c.requires.fact.1 c.requires.t.0 c.requires.t.1
-    r.new.work r.ensures r.auto.work in record {
-      d_lt_most_variables = omega (trial_sizes, c.requires.d_bound.0);
-      fact = regions-apart k.from c.requires.fact.0;
-      region_size_bound = t.0;
-      d_bound = t.1;
-      word_size_in_bounds = (
-        omega (trial_sizes, c.requires.fact.1, r.auto.work, t.0.0),
-        omega (trial_sizes, c.requires.fact.1, r.auto.work, t.0.1),
-      );
-    }
+    level-asks a.d k.from k.count a.work.now (region (goal.at.level-entries-requires c).Start) c.requires.long_work c.requires.has_room.0
+    c.requires.has_room.1 r.new.work r.ensures r.auto.work c.requires.levels_left.0
 
-pub differing_pairs-requires : goal.differing_pairs-requires
-differing_pairs-requires c =
+pub cells_of-requires : goal.cells_of-requires
+cells_of-requires c =
     let a = c.args in
-    let k = a.kept in
+    let k = a.kept.entries in
     let r = c.exchange_kept in
-    let t = level-asks a.d k.from k.entries a.work.now c.requires.fact.0 c.requires.fact.1 c.requires.t.0 c.requires.t.1
-    r.new.work r.ensures r.auto.work in
-    omega (trial_sizes, t.0.2, c.level-entries.auto.work)
+    omega (
+      trial_sizes,
+      level-links a.d k.from k.count a.work.now (region (goal.at.cells_of-requires c).Start) c.requires.long_work c.requires.has_room.0
+          c.requires.has_room.1 r.new.work r.ensures r.auto.work,
+      c.level-entries.auto.work,
+    )
+
+pub invariant_of-result : goal.invariant_of-result
+invariant_of-result c =
+    let from = c.args.kept.entries.from in
+    let l = c.level-entries in
+    let other : Region l.result.from = subst Region (sym l.ensures.from) (region-other from (region (goal.at.invariant_of-result c).Start)) in
+    record { in_region = region-met l.result.from other }
 
 pub returns : goal.returns
 returns c =
     let a = c.args in
-    let k = a.kept in
+    let k = a.kept.entries in
     let r = c.exchange_kept in
-    let t = lower-leaves a.d k.from k.entries a.work.now c.requires.fact.0 c.requires.fact.1 c.requires.t.0
-    c.requires.t.1 r.new.work r.ensures r.auto.work
-    c.level-entries.result c.differing_pairs.result c.level-entries.new.work c.level-entries.ensures.entries c.level-entries.ensures.work
-    c.differing_pairs.ensures in record {
-      from = refl;
+    let l = c.level-entries in
+    let t = lower-leaves a.d k.from k.count a.work.now (region (goal.at.returns c).Start) c.requires.long_work c.requires.has_room.0
+    c.requires.has_room.1 r.new.work r.ensures r.auto.work l.result.count c.cells_of.result l.new.work l.ensures.count l.ensures.work c.cells_of.ensures in
+    record {
+      from = l.ensures.from;
       entries = t.0;
-      above = ap (set k.above a.p) t.1;
-      parts = t.2;
+      above = ap (set a.kept.above a.p) t.1;
+      parts = ap (λ (from : ℕ). parts_at (suc a.d) l.result.count from l.new.work) l.ensures.from ∙ t.2;
       behind = t.3;
     }

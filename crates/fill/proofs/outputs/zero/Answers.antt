@@ -1,33 +1,14 @@
-use borrow.Author.Rules.{rules}
-use mathlib.Core.Path.{refl, sym, ap, ◌∙◌}
-use Prim.Native.Nat.{ℕ, ◌+◌}
-use native.Mathlib.Nat.{le_antisymm}
-use lib.ListN.{replicate, length-set}
+-- `fill::outputs::zero` meets its contract. Assumes nothing.
+use Rattle.std.proofs.Common.{rules, ◌≡◌, ◌∙◌, ap, ◌+◌, ◌-◌, length, replicate, arith, ℕ}
+use lib.ListN.{length-replicate}
 use Rattle.lists.specs.Written.{splice}
-use Rattle.lists.proofs.Written.Splice.{splice-none}
-use Rattle.lists.proofs.Written.Zeros.{zeros-more}
+use Rattle.lists.proofs.Written.Splice.{put_back}
 use Rattle.fill.proofs.outputs.zero.Goals as goal
-
-pub loop-j-init : goal.loop-j-init
-loop-j-init c =
-    let a = c.args in
-    (search rules, refl, sym (splice-none a.l.now a.from))
-
-pub loop-j-preserved : goal.loop-j-preserved
-loop-j-preserved c =
-    let a = c.args in
-    let l = c.loop-j in (
-      search rules,
-      length-set l.l (a.from + l.j) 0 ∙ l.invariant.1,
-      zeros-more a.l.now a.from l.j l.l _ (search rules) l.invariant.2 refl,
-    )
-
-pub shape_of-l : goal.shape_of-l
-shape_of-l c =
-    c.loop-j.invariant.1
 
 pub returns : goal.returns
 returns c =
     let a = c.args in
-    let l = c.loop-j in
-    l.invariant.2 ∙ ap (λ (n : ℕ). splice a.l.now a.from (replicate n 0)) (le_antisymm l.invariant.0 c.loop-j-test.false)
+    let n : a.from + a.count - a.from ≡ a.count = omega arith in
+    let zeros : c.fill.new.self ≡ replicate a.count 0 = search rules in
+    put_back a.l.now a.from (a.from + a.count - a.from) c.fill.new.self (omega (arith, ap length zeros, length-replicate {A = ℕ} a.count 0))
+    ∙ ap (splice a.l.now a.from) zeros

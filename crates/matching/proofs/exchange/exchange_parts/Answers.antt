@@ -18,7 +18,7 @@ few : (s : Start) → 2 * s.args.count ≤ length s.args.work.now
 few s =
     let a = s.args in
     let w = width (suc (suc a.d)) in
-    twice-le a.count w (length a.work.now) (width-pos (suc (suc a.d))) (omega (arith, s.requires.d_in_bounds))
+    twice-le a.count w (length a.work.now) (width-pos (suc (suc a.d))) (omega (arith, s.requires.in_work))
 
 pub overflow_mul-planes : goal.overflow_mul-planes
 overflow_mul-planes c =
@@ -35,7 +35,7 @@ offset c = c.args.from + c.loop-i.i * c.width_of-w.result
 wide : (c : In-loop-i) → c.width_of-w.result ≡ width (suc (suc c.args.d))
 wide c =
     let e : c.args.d + 2 ≡ suc (suc c.args.d) = omega arith in
-    c.width_of-w.ensures ∙ width-met (c.args.d + 2) c.requires.d_bound ∙ ap width e
+    c.width_of-w.ensures ∙ width-met (c.args.d + 2) c.requires.variables ∙ ap width e
 
 at-plane : (c : In-loop-i) → offset c ≡ c.args.from + c.loop-i.i * width (suc (suc c.args.d))
 at-plane c = ap (λ (w : ℕ). c.args.from + c.loop-i.i * w) (wide c)
@@ -44,7 +44,7 @@ fits : (c : In-loop-i)
     → c.args.from + (c.loop-i.i + 1) * width (suc (suc c.args.d)) ≤ length c.args.work.now
 fits c =
     plane-fits c.loop-i.i c.args.count (width (suc (suc c.args.d))) c.args.from (length c.args.work.now)
-    c.loop-i-test.true c.requires.d_in_bounds
+    c.loop-i-test.true c.requires.in_work
 
 -- the plane lies in the work buffer
 within : (c : In-loop-i) → offset c + c.width_of-w.result ≤ length c.loop-i.work
@@ -76,7 +76,7 @@ lent_is c = omega (arith, wide c)
 pub exchange_plane-requires : goal.exchange_plane-requires
 exchange_plane-requires c =
     let m = c.loop-i.work in record {
-      d_bound = c.requires.d_bound;
+      variables = c.requires.variables;
       plane_len = length-take-le (lent (goal.at.exchange_plane-requires c).In-loop-i)
           (drop (offset (goal.at.exchange_plane-requires c).In-loop-i) m)
           (omega (

@@ -1,7 +1,7 @@
 -- `matching::exchange::exchange_parts` meets its contract. The loop's invariant: the first i planes are exchanged. The measure is how many are
 -- left. Assumes nothing.
 use mathlib.Core.Path.{◌≡◌}
-use Prim.Native.Nat.{◌-◌, ◌≤◌}
+use Prim.Native.Nat.{◌≤◌}
 use lib.ListN.{length}
 use Rattle.matching.proofs.Buffers.ExchangedPlanes.{exchanged_to}
 use Rattle.matching.proofs.exchange.exchange_parts.Given as goal

@@ -4,20 +4,16 @@ use Rattle.matching.proofs.Parts.PartHalves.{shift_small}
 use Rattle.matching.proofs.Parts.ExchangedBytes.{join-fits, join-shifted}
 use Rattle.matching.proofs.exchange.join_byte.Goals as goal
 
-pub overflow_cast-result : goal.overflow_cast-result
-overflow_cast-result c =
-    omega (arith, shift_small c.args.d c.requires.d_bound)
-
 pub overflow_shl-result-2 : goal.overflow_shl-result-2
 overflow_shl-result-2 c =
-    shift_small c.args.d c.requires.d_bound
+    shift_small c.args.d c.requires.below_a_byte
 
 pub overflow_add-result : goal.overflow_add-result
 overflow_add-result c =
     let a = c.args in
-    omega (arith, join-fits a.low a.high a.d c.requires.d_bound c.requires.low_bound.0 c.requires.low_bound.1)
+    omega (arith, join-fits a.low a.high a.d c.requires.below_a_byte c.requires.halves_fit.0 c.requires.halves_fit.1)
 
 pub returns : goal.returns
 returns c =
     let a = c.args in
-    join-shifted a.low a.high a.d c.requires.d_bound c.requires.low_bound.0 c.requires.low_bound.1
+    join-shifted a.low a.high a.d c.requires.below_a_byte c.requires.halves_fit.0 c.requires.halves_fit.1

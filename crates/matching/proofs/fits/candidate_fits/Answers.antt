@@ -1,118 +1,76 @@
--- `matching::fits::candidate_fits` meets its contract. Assumes nothing.
-use mathlib.Core.Path.{◌≡◌, sym, ap, ◌∙◌}
-use mathlib.Core.Bool.{true}
-use Prim.Native.Nat.{ℕ, ◌+◌, ◌*◌}
-use native.Mathlib.Omega.{arith}
+-- A part of d variables has two planes. Assumes nothing.
+use Rattle.std.proofs.Common.{◌≡◌, true, false, ◌&&◌, sym, ap, ◌∙◌, ℕ, ◌+◌, ◌*◌, arith}
 use borrow.Author.Tests.{le-leb, lt-leb, eq-eqb, ne_eqb}
 use lib.Dec.{leb, eqb}
 use Rattle.diagram.specs.Networks.Bound.{most_variables}
 use Rattle.reorder.specs.Sizes.{width}
-use Rattle.reorder.proofs.Shifts.{part-size, width_room, width-met}
+use Rattle.reorder.proofs.Shifts.{width-met, width-up-room, part-size}
 use Rattle.matching.specs.Links.{region_size, word_size}
 use Rattle.matching.specs.Fits.{candidate_fits}
+use Rattle.matching.proofs.Buffers.Fitting.{region_word, one_more, in_turn}
 use Rattle.matching.proofs.Parts.PartHalves.{width-pos}
-use Rattle.matching.proofs.Buffers.Fitting.{region-word, one_more, refused, passed}
 use Rattle.matching.proofs.fits.candidate_fits.Goals as goal
-use Rattle.matching.proofs.fits.candidate_fits.Goals.{After-blocks_fit, After-blocks_fit-2, After-width_of-w, Else-d-gt-VARIABLES, Else-size-s}
+use Rattle.matching.proofs.fits.candidate_fits.Goals.{Joined-blocks_fit}
+use Rattle.matching.proofs.fits.candidate_fits.Goals.{then-size-s, else-size-s, then-blocks_fit, else-blocks_fit}
+
+pub overflow_mul-s : goal.overflow_mul-s
+overflow_mul-s c = omega (arith, c.width_of-s.ensures, width-up-room c.args.d, part-size)
 
 pub returns-then-d-gt-VARIABLES : goal.returns-then-d-gt-VARIABLES
 unfolding candidate_fits
-returns-then-d-gt-VARIABLES c =
-    rw (lt-leb c.args.d most_variables c.if-d-gt-VARIABLES.true)
+returns-then-d-gt-VARIABLES c = let many = lt-leb c.args.d most_variables c.if-d-gt-VARIABLES.true in rw many
 
--- the bytes of a plane, and of a part
-wide : (c : After-width_of-w) → c.width_of-w.result ≡ width c.args.d
-wide c = c.width_of-w.ensures ∙ width-met c.args.d c.if-d-gt-VARIABLES.false
+pub blocks_fit-requires-then-blocks_fit : goal.blocks_fit-requires-then-blocks_fit
+blocks_fit-requires-then-blocks_fit c =
+    omega (arith, c.width_of-s.ensures ∙ width-met c.args.d c.if-d-gt-VARIABLES.false, width-pos c.args.d)
 
--- the bytes of a plane, and of a part
-wide-2 : (c : Else-size-s) → c.width_of-w.result ≡ width c.args.d
-wide-2 c = c.width_of-w.ensures ∙ width-met c.args.d c.if-d-gt-VARIABLES.false
-
--- the bytes of a plane, and of a part
-wide-3 : (c : After-blocks_fit-2) → c.width_of-w.result ≡ width c.args.d
-wide-3 c = c.width_of-w.ensures ∙ width-met c.args.d c.if-d-gt-VARIABLES.false
-
-whole : (c : After-width_of-w)
-    → c.width_of-w.result + c.width_of-w.result ≡ width c.args.d + width c.args.d
-whole c = ap (λ (w : ℕ). w + w) (wide c)
-
-whole-2 : (c : Else-size-s)
-    → c.width_of-w.result + c.width_of-w.result ≡ width c.args.d + width c.args.d
-whole-2 c = ap (λ (w : ℕ). w + w) (wide-2 c)
-
-whole-3 : (c : After-blocks_fit-2)
-    → c.width_of-w.result + c.width_of-w.result ≡ width c.args.d + width c.args.d
-whole-3 c = ap (λ (w : ℕ). w + w) (wide-3 c)
-
-pub overflow_add-s : goal.overflow_add-s
-overflow_add-s c =
-    omega (arith, whole (goal.at.overflow_add-s c).After-width_of-w, part-size, width_room c.args.d c.if-d-gt-VARIABLES.false)
-
--- what each test says, and what it says once it is passed
-few : (c : Else-d-gt-VARIABLES) → leb c.args.d most_variables ≡ true
-few c = le-leb c.args.d most_variables c.if-d-gt-VARIABLES.false
-
-sized : (c : Else-size-s)
-    → let a = c.args in eqb a.size (width a.d + width a.d) ≡ true
-sized c =
+-- what the first two tests come to, and the third too
+two : (c : Joined-blocks_fit) → c.width_of-s.result ≡ width c.args.d
+    → c.if-size-s.value ≡ (eqb c.args.size (width c.args.d + width c.args.d) && leb (c.args.to + region_size + word_size) c.args.len)
+two c e =
     let a = c.args in
-    eq-eqb a.size (width a.d + width a.d) (c.if-size-s.false ∙ whole-2 c)
+    let s : 2 * c.width_of-s.result ≡ width a.d + width a.d = omega (arith, e) in
+    elim c.if-size-s.branch [
+      | then-size-s w ↦
+          let t : eqb a.size (width a.d + width a.d) ≡ true = eq-eqb a.size (width a.d + width a.d) (w.if-size-s.true ∙ s) in
+          rw t (w.value-is ∙ w.blocks_fit.ensures ∙ region_word a.to a.len)
+      | else-size-s w ↦
+          let t : eqb a.size (width a.d + width a.d) ≡ false =
+          ne_eqb a.size (width a.d + width a.d) (λ q. w.if-size-s.false (q ∙ sym s)) in
+          let u : eqb a.size (2 * c.width_of-s.result) ≡ false = ne_eqb a.size (2 * c.width_of-s.result) w.if-size-s.false in
+          rw t (w.value-is ∙ u)
+    ]
 
-place : (c : After-blocks_fit)
-    → let a = c.args in
-    c.blocks_fit.result ≡ leb (a.to + region_size + word_size) a.len
-place c =
+three : (c : Joined-blocks_fit) → c.width_of-s.result ≡ width c.args.d
+    → c.if-blocks_fit.value ≡ (c.if-size-s.value && leb ((c.args.k + 1) * (width c.args.d + width c.args.d)) region_size)
+three c e =
     let a = c.args in
-    c.blocks_fit.ensures ∙ region-word a.to a.len
+    let s : 2 * c.width_of-s.result ≡ width a.d + width a.d = omega (arith, e) in
+    elim c.if-blocks_fit.branch [
+      | then-blocks_fit w ↦
+          let t = w.if-blocks_fit.true in
+          rw t
+          (w.value-is ∙ w.blocks_fit-then-blocks_fit.ensures ∙ one_more a.k (2 * c.width_of-s.result) region_size
+          ∙ ap (λ (n : ℕ). leb ((a.k + 1) * n) region_size) s)
+      | else-blocks_fit w ↦ let t = w.if-blocks_fit.false in rw t (w.value-is ∙ t)
+    ]
 
-room : (c : After-blocks_fit-2)
-    → let a = c.args in
-    c.blocks_fit-2.result ≡ leb ((a.k + 1) * (width a.d + width a.d)) region_size
-room c =
-    let a = c.args in
-    c.blocks_fit-2.ensures ∙ one_more a.k (c.width_of-w.result + c.width_of-w.result) region_size
-    ∙ ap (λ (s : ℕ). leb ((a.k + 1) * s) region_size) (whole-3 c)
-
-pub returns-then-size-s : goal.returns-then-size-s
+pub returns-then-blocks_fit-2 : goal.returns-then-blocks_fit-2
 unfolding candidate_fits
-returns-then-size-s c =
-    let a = c.args in
-    rw (
-      few (goal.at.returns-then-size-s c).Else-d-gt-VARIABLES,
-      ne_eqb a.size (width a.d + width a.d)
-          (λ e. c.if-size-s.true (e ∙ sym (whole (goal.at.returns-then-size-s c).After-width_of-w))),
-    )
+returns-then-blocks_fit-2 c =
+    let d = c.args.d in
+    let p = (goal.at.returns-then-blocks_fit-2 c).Joined-blocks_fit in
+    let e = c.width_of-s.ensures ∙ width-met d c.if-d-gt-VARIABLES.false in
+    let few : leb d most_variables ≡ true = le-leb d most_variables c.if-d-gt-VARIABLES.false in
+    let t = c.if-blocks_fit-2.true in
+    rw few (c.blocks_fit-then-blocks_fit-2.ensures ∙ sym (in_turn _ _ _ _ _ _ (two p e) (three p e) ∙ rw t))
 
-pub returns-then-not-blocks_fit : goal.returns-then-not-blocks_fit
+pub returns-else-blocks_fit-2 : goal.returns-else-blocks_fit-2
 unfolding candidate_fits
-returns-then-not-blocks_fit c =
-    rw (
-      few (goal.at.returns-then-not-blocks_fit c).Else-d-gt-VARIABLES,
-      sized (goal.at.returns-then-not-blocks_fit c).Else-size-s,
-      refused (place (goal.at.returns-then-not-blocks_fit c).After-blocks_fit) c.if-not-blocks_fit.true-raw,
-    )
-
-pub blocks_fit-requires-2 : goal.blocks_fit-requires-2
-blocks_fit-requires-2 c =
-    omega (arith, whole (goal.at.blocks_fit-requires-2 c).After-width_of-w, width-pos c.args.d)
-
-pub returns-then-not-blocks_fit-2 : goal.returns-then-not-blocks_fit-2
-unfolding candidate_fits
-returns-then-not-blocks_fit-2 c =
-    rw (
-      few (goal.at.returns-then-not-blocks_fit-2 c).Else-d-gt-VARIABLES,
-      sized (goal.at.returns-then-not-blocks_fit-2 c).Else-size-s,
-      passed (place (goal.at.returns-then-not-blocks_fit-2 c).After-blocks_fit) c.if-not-blocks_fit.false-raw,
-      refused (room (goal.at.returns-then-not-blocks_fit-2 c).After-blocks_fit-2) c.if-not-blocks_fit-2.true-raw,
-    )
-
-pub returns : goal.returns
-unfolding candidate_fits
-returns c =
-    rw (
-      few (goal.at.returns c).Else-d-gt-VARIABLES,
-      sized (goal.at.returns c).Else-size-s,
-      passed (place (goal.at.returns c).After-blocks_fit) c.if-not-blocks_fit.false-raw,
-      passed (room (goal.at.returns c).After-blocks_fit-2) c.if-not-blocks_fit-2.false-raw,
-    )
-    c.blocks_fit-3.ensures
+returns-else-blocks_fit-2 c =
+    let d = c.args.d in
+    let p = (goal.at.returns-else-blocks_fit-2 c).Joined-blocks_fit in
+    let e = c.width_of-s.ensures ∙ width-met d c.if-d-gt-VARIABLES.false in
+    let few : leb d most_variables ≡ true = le-leb d most_variables c.if-d-gt-VARIABLES.false in
+    let t = c.if-blocks_fit-2.false in
+    rw few (t ∙ sym (in_turn _ _ _ _ _ _ (two p e) (three p e) ∙ rw t))

@@ -1,87 +1,57 @@
--- `matching::fits::count_fits` meets its contract: two parts of d variables take four planes. Assumes nothing.
-use borrow.Author.Tests.{le-leb, lt-leb}
-use mathlib.Core.Path.{◌≡◌, ap, ◌∙◌}
-use Prim.Native.Nat.{ℕ, suc, ◌+◌, ◌*◌, ◌≤◌, ◌<◌}
-use native.Mathlib.Nat.{mul-le-mul_left, mul-le-mul_right}
-use native.Mathlib.Omega.{arith}
+-- Two parts of d variables take four planes. Assumes nothing.
+use Rattle.std.proofs.Common.{◌≡◌, sym, ap, ◌∙◌, ℕ, suc, ◌+◌, ◌*◌, ◌<◌, arith}
+use native.Mathlib.Nat.{le_of_lt}
 use lib.Dec.{leb}
-use Rattle.reorder.specs.Sizes.{width}
-use Rattle.reorder.proofs.Shifts.{part-size, width_room, width-met}
+use Rattle.diagram.specs.Networks.Bound.{most_variables}
+use Rattle.reorder.specs.Sizes.{width, width_up_to}
+use Rattle.reorder.proofs.Shifts.{width-met, width-up-room, part-size}
 use Rattle.matching.specs.Links.{region_size}
 use Rattle.matching.specs.Fits.{count_fits}
-use Rattle.matching.proofs.Parts.PartHalves.{width-pos}
 use Rattle.matching.proofs.Buffers.Fitting.{halves-counted}
+use Rattle.matching.proofs.Linking.LinkedHalves.{part-width}
+use Rattle.matching.proofs.Parts.PartHalves.{width-pos}
 use Rattle.matching.proofs.fits.count_fits.Goals as goal
-use Rattle.matching.proofs.fits.count_fits.Goals.{After-width_of-v, After-width_of-w}
 
--- more parts than a region has bytes, and so few that their bytes can be counted
-too_many : (count v : ℕ) → 0 < v → region_size < count → region_size < count * (v + v)
-too_many count v h k =
-    let two : 1 ≤ v + v = omega arith in
-    omega (arith, mul-le-mul_left count two)
+pub overflow_mul-width_of : goal.overflow_mul-width_of
+overflow_mul-width_of c = omega (arith, c.width_of.ensures, width-up-room (c.args.d + 1), part-size)
 
-small : (count s : ℕ) → count ≤ region_size → s ≤ 512 → count * s ≤ 2097152
-small count s h k = omega (arith, mul-le-mul_left count k, mul-le-mul_right 512 h)
+pub blocks_fit-requires : goal.blocks_fit-requires
+blocks_fit-requires c =
+    omega (arith, part-width c.args.d c.width_of.result c.requires c.width_of.ensures, width-pos (suc c.args.d))
 
-pub returns-then-count-gt-REGION : goal.returns-then-count-gt-REGION
+pub overflow_mul-width_of-then-blocks_fit : goal.overflow_mul-width_of-then-blocks_fit
+overflow_mul-width_of-then-blocks_fit c = omega (arith, c.width_of-then-blocks_fit.ensures, width-up-room c.args.d, part-size)
+
+pub blocks_fit-requires-then-blocks_fit : goal.blocks_fit-requires-then-blocks_fit
+blocks_fit-requires-then-blocks_fit c =
+    omega (arith, c.width_of-then-blocks_fit.ensures ∙ width-met c.args.d (le_of_lt c.requires), width-pos c.args.d)
+
+-- the parts as they are, by what is tested
+whole : (d count r : ℕ) → d < most_variables → r ≡ width_up_to (d + 1)
+    → leb (0 + count * (2 * r)) region_size ≡ leb (count * (width (suc d) + width (suc d))) region_size
+whole d count r h e =
+    let p : 0 + count * (2 * r) ≡ count * (width (suc d) + width (suc d)) =
+    let q : 2 * r ≡ width (suc d) + width (suc d) = omega (arith, part-width d r h e) in
+    omega (arith, ap (λ (n : ℕ). count * n) q) in
+    ap (λ (n : ℕ). leb n region_size) p
+
+pub returns-then-blocks_fit : goal.returns-then-blocks_fit
 unfolding count_fits
-returns-then-count-gt-REGION c =
+returns-then-blocks_fit c =
     let a = c.args in
-    let v = width (suc a.d) in
-    rw (lt-leb (a.count * (v + v)) region_size (too_many a.count v (width-pos (suc a.d)) c.if-count-gt-REGION.true))
+    let d = a.d in
+    let one = sym (whole d a.count c.width_of.result c.requires c.width_of.ensures) ∙ sym c.blocks_fit.ensures ∙ c.if-blocks_fit.true in
+    let zero : 0 + a.count * (4 * c.width_of-then-blocks_fit.result) ≡ a.count * (4 * c.width_of-then-blocks_fit.result) = omega arith in
+    rw one
+    (c.blocks_fit-then-blocks_fit.ensures
+    ∙ ap (λ (n : ℕ). leb n region_size) zero
+    ∙ halves-counted a.count c.width_of-then-blocks_fit.result region_size
+    ∙ ap (λ (n : ℕ). leb ((a.count + a.count) * (n + n)) region_size)
+    (c.width_of-then-blocks_fit.ensures ∙ width-met d (le_of_lt c.requires)))
 
--- the bytes of a plane of d + 1 variables, and of one of d
-wide : (c : After-width_of-v) → c.width_of-v.result ≡ width (suc c.args.d)
-wide c =
-    let e : c.args.d + 1 ≡ suc c.args.d = omega arith in
-    c.width_of-v.ensures ∙ width-met (c.args.d + 1) (omega (arith, c.requires)) ∙ ap width e
-
-most : (c : After-width_of-v) → c.width_of-v.result ≤ 128
-most c = omega (arith, wide c, part-size, width_room (suc c.args.d) c.requires)
-
-pub overflow_add-v : goal.overflow_add-v
-overflow_add-v c =
-    omega (arith, most (goal.at.overflow_add-v c).After-width_of-v)
-
-pub overflow_mul-count : goal.overflow_mul-count
-overflow_mul-count c =
-    omega (
-      arith,
-      small c.args.count (c.width_of-v.result + c.width_of-v.result) c.if-count-gt-REGION.false
-          (omega (arith, most (goal.at.overflow_mul-count c).After-width_of-v)),
-    )
-
-pub returns-then-count-v-gt-REGION : goal.returns-then-count-v-gt-REGION
+pub returns-else-blocks_fit : goal.returns-else-blocks_fit
 unfolding count_fits
-returns-then-count-v-gt-REGION c =
-    let e = wide (goal.at.returns-then-count-v-gt-REGION c).After-width_of-v in
-    rw (lt-leb (c.args.count * (width (suc c.args.d) + width (suc c.args.d))) region_size (rw e at c.if-count-v-gt-REGION.true))
-
-narrow : (c : After-width_of-w) → c.width_of-w.result ≡ width c.args.d
-narrow c =
-    c.width_of-w.ensures ∙ width-met c.args.d (omega (arith, c.requires))
-
-few : (c : After-width_of-w) → c.width_of-w.result ≤ 128
-few c =
-    omega (arith, narrow c, part-size, width_room c.args.d (omega (arith, c.requires)))
-
-pub overflow_mul-result : goal.overflow_mul-result
-overflow_mul-result c =
-    omega (arith, few (goal.at.overflow_mul-result c).After-width_of-w)
-
-pub overflow_mul-result-2 : goal.overflow_mul-result-2
-overflow_mul-result-2 c =
-    omega (
-      arith,
-      small c.args.count (4 * c.width_of-w.result) c.if-count-gt-REGION.false
-          (omega (arith, few (goal.at.overflow_mul-result-2 c).After-width_of-w)),
-    )
-
-pub returns : goal.returns
-unfolding count_fits
-returns c =
-    let v = width (suc c.args.d) in
-    let e = wide (goal.at.returns c).After-width_of-v in
-    rw (le-leb (c.args.count * (v + v)) region_size (rw e at c.if-count-v-gt-REGION.false))
-    (ap (λ (w : ℕ). leb (c.args.count * (4 * w)) region_size) (narrow (goal.at.returns c).After-width_of-w)
-    ∙ halves-counted c.args.count (width c.args.d) region_size)
+returns-else-blocks_fit c =
+    let a = c.args in
+    let none = sym (whole a.d a.count c.width_of.result c.requires c.width_of.ensures) ∙ sym c.blocks_fit.ensures ∙ c.if-blocks_fit.false in
+    rw (none, c.if-blocks_fit.false)

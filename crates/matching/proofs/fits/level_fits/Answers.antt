@@ -1,51 +1,46 @@
--- `matching::fits::level_fits` meets its contract. Assumes nothing.
-use mathlib.Core.Path.{◌≡◌, ◌∙◌}
-use mathlib.Core.Bool.{true}
+-- Test after test. Assumes nothing.
+use Rattle.std.proofs.Common.{◌≡◌, true, false, ◌&&◌, sym, ◌∙◌}
 use borrow.Author.Tests.{lt-ltb, le-ltb}
 use lib.Dec.{ltb}
 use Rattle.diagram.specs.Networks.Bound.{most_variables}
 use Rattle.matching.specs.Fits.{regions_fit, count_fits, level_fits}
-use Rattle.matching.proofs.Buffers.Fitting.{links-counted, refused, passed}
+use Rattle.matching.proofs.Buffers.Fitting.{links-counted, in_turn}
 use Rattle.matching.proofs.fits.level_fits.Goals as goal
-use Rattle.matching.proofs.fits.level_fits.Goals.{Else-d-ge-VARIABLES, Else-not-count_fits, Else-not-regions_fit}
+use Rattle.matching.proofs.fits.level_fits.Goals.{Joined-regions_fit}
+use Rattle.matching.proofs.fits.level_fits.Goals.{then-d-lt-VARIABLES, else-d-lt-VARIABLES, then-regions_fit, else-regions_fit}
 
--- what each test says once it is passed
-few : (c : Else-d-ge-VARIABLES) → ltb c.args.d most_variables ≡ true
-few c = lt-ltb c.args.d most_variables c.if-d-ge-VARIABLES.false
+-- what the first two tests come to, and the third too
+two : (c : Joined-regions_fit)
+    → c.if-d-lt-VARIABLES.value ≡ (ltb c.args.d most_variables && regions_fit c.args.from c.args.to c.args.links c.args.len)
+two c =
+    let d = c.args.d in
+    elim c.if-d-lt-VARIABLES.branch [
+      | then-d-lt-VARIABLES w ↦
+          let t : ltb d most_variables ≡ true = lt-ltb d most_variables w.if-d-lt-VARIABLES.true in
+          rw t (w.value-is ∙ w.regions_fit.ensures)
+      | else-d-lt-VARIABLES w ↦
+          let t : ltb d most_variables ≡ false = le-ltb d most_variables w.if-d-lt-VARIABLES.false in
+          rw t (w.value-is ∙ t)
+    ]
 
-placed : (c : Else-not-regions_fit)
-    → let a = c.args in regions_fit a.from a.to a.links a.len ≡ true
-placed c = passed c.regions_fit.ensures c.if-not-regions_fit.false-raw
+three : (c : Joined-regions_fit) → c.if-regions_fit.value ≡ (c.if-d-lt-VARIABLES.value && count_fits c.args.d c.args.count)
+three c =
+    elim c.if-regions_fit.branch [
+      | then-regions_fit w ↦ let t = w.if-regions_fit.true in rw t (w.value-is ∙ w.count_fits.ensures)
+      | else-regions_fit w ↦ let t = w.if-regions_fit.false in rw t (w.value-is ∙ t)
+    ]
 
-counted : (c : Else-not-count_fits) → let a = c.args in count_fits a.d a.count ≡ true
-counted c = passed c.count_fits.ensures c.if-not-count_fits.false-raw
-
-pub returns-then-d-ge-VARIABLES : goal.returns-then-d-ge-VARIABLES
+pub returns-then-count_fits : goal.returns-then-count_fits
 unfolding level_fits
-returns-then-d-ge-VARIABLES c =
-    rw (le-ltb c.args.d most_variables c.if-d-ge-VARIABLES.true)
-
-pub returns-then-not-regions_fit : goal.returns-then-not-regions_fit
-unfolding level_fits
-returns-then-not-regions_fit c =
-    rw (few (goal.at.returns-then-not-regions_fit c).Else-d-ge-VARIABLES, refused c.regions_fit.ensures c.if-not-regions_fit.true-raw)
-
-pub returns-then-not-count_fits : goal.returns-then-not-count_fits
-unfolding level_fits
-returns-then-not-count_fits c =
-    rw (
-      few (goal.at.returns-then-not-count_fits c).Else-d-ge-VARIABLES,
-      placed (goal.at.returns-then-not-count_fits c).Else-not-regions_fit,
-      refused c.count_fits.ensures c.if-not-count_fits.true-raw,
-    )
-
-pub returns : goal.returns
-unfolding level_fits
-returns c =
+returns-then-count_fits c =
     let a = c.args in
-    rw (
-      few (goal.at.returns c).Else-d-ge-VARIABLES,
-      placed (goal.at.returns c).Else-not-regions_fit,
-      counted (goal.at.returns c).Else-not-count_fits,
-    )
-    (c.blocks_fit.ensures ∙ links-counted a.links a.count a.len)
+    let p = (goal.at.returns-then-count_fits c).Joined-regions_fit in
+    let t = c.if-count_fits.true in
+    c.blocks_fit.ensures ∙ links-counted a.links a.count a.len ∙ sym (in_turn _ _ _ _ _ _ (two p) (three p) ∙ rw t)
+
+pub returns-else-count_fits : goal.returns-else-count_fits
+unfolding level_fits
+returns-else-count_fits c =
+    let p = (goal.at.returns-else-count_fits c).Joined-regions_fit in
+    let t = c.if-count_fits.false in
+    t ∙ sym (in_turn _ _ _ _ _ _ (two p) (three p) ∙ rw t)

@@ -1,14 +1,11 @@
--- `matching::link::put_link` meets its contract. Assumes nothing.
-use Prim.Native.Nat.{◌/◌, ◌%◌}
-use native.Mathlib.Omega.{arith}
-use lib.ListN.{length-set}
-use Rattle.lists.proofs.Written.Splice.{set_pair}
+-- The two lowest bytes of the number are copied. Assumes nothing.
+use Rattle.std.proofs.Common.{ap, ◌∙◌, List, ℕ, length, take, arith}
+use Rattle.lists.specs.Written.{splice}
+use Rattle.lists.proofs.Written.Splice.{put_back}
 use Rattle.matching.proofs.link.put_link.Goals as goal
-
-pub bounds-work-next : goal.bounds-work-next
-bounds-work-next c =
-    simp length-set (omega arith)
 
 pub returns : goal.returns
 returns c =
-    set_pair c.args.work.now c.args.k (c.args.link % 256) (c.args.link / 256 % 256) c.requires
+    let a = c.args in
+    let e = c.copy_from_slice.ensures.after ∙ ap (λ (l : List ℕ). take 2 l) c.to_le_bytes.ensures in
+    put_back a.work.now a.at _ c.copy_from_slice.new.self (ap length e ∙ omega arith) ∙ ap (splice a.work.now a.at) e

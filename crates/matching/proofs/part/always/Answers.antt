@@ -1,35 +1,17 @@
-use borrow.Author.Rules.{rules}
-use borrow.Author.Tests.{not-true, not-false}
-use mathlib.Core.Path.{refl, sym, ap, ◌∙◌}
-use Prim.Native.Nat.{zero-le}
-use native.Mathlib.Nat.{le_antisymm}
-use Rattle.lists.specs.Lists.{all, up_to}
-use Rattle.lists.proofs.Numbers.Compared.{all-up_to-more, all-up_to-fails}
+-- The test of every byte. Assumes nothing.
+use Rattle.std.proofs.Common.{◌≡◌, rules, Bool, true, false, ℕ, ◌+◌, ◌<◌, get_or, MatchBool}
+use Rattle.std.proofs.iter.runs.Sources.{ranges}
+use Rattle.matching.specs.Bytes.{always_byte}
 use Rattle.matching.specs.Parts.{always_part}
-use Rattle.matching.proofs.part.always.Invariants.{test}
+use Rattle.matching.proofs.Parts.PartTests.{all-tested}
 use Rattle.matching.proofs.part.always.Goals as goal
-
-pub loop-j-init : goal.loop-j-init
-loop-j-init c =
-    (zero-le, refl)
-
-pub returns-then-not-always_byte : goal.returns-then-not-always_byte
-unfolding always_part
-returns-then-not-always_byte c =
-    let a = c.args in
-    sym (all-up_to-fails (test a.v a.w a.f.now) a.w c.loop-j.j (search rules)
-    (sym c.always_byte.ensures ∙ not-true c.always_byte.result c.if-not-always_byte.true-raw))
-
-pub loop-j-preserved : goal.loop-j-preserved
-loop-j-preserved c =
-    let a = c.args in (
-      search rules,
-      all-up_to-more (test a.v a.w a.f.now) c.loop-j.j c.loop-j.invariant.1
-          (sym c.always_byte.ensures ∙ not-false c.always_byte.result c.if-not-always_byte.false-raw),
-    )
 
 pub returns : goal.returns
 unfolding always_part
 returns c =
     let a = c.args in
-    sym c.loop-j.invariant.1 ∙ ap (λ n. all (test a.v a.w a.f.now) (up_to n)) (le_antisymm c.loop-j.invariant.0 c.loop-j-test.false)
+    let f = a.f.now in
+    let test : ℕ → Bool = λ j. always_byte a.v (get_or f j 0) (get_or f (a.w + j) 0) in
+    let tested : MatchBool c.all.result ((j : ℕ) → j < a.w → test j ≡ true) ((j : ℕ) × (j < a.w) × (test j ≡ false)) =
+    search (rules, ranges) in
+    all-tested test a.w c.all.result tested

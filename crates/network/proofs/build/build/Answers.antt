@@ -1,5 +1,7 @@
 -- `network::build::build` meets its contract: each way it ends is a law of `BuildCases`.
 -- Assumes nothing.
+use mathlib.Core.Path.{sym, ◌∙◌}
+use Rattle.std.proofs.lemmas.Result.{err_from_is_err_and}
 use Rattle.network.proofs.Building.BuildCases.{short-case, refused-case, small-case, ready, built-case}
 use Rattle.network.proofs.build.build.Goals as goal
 
@@ -19,9 +21,9 @@ returns-then-roots-lt-ROOTS c =
 pub returns-then-cells-total : goal.returns-then-cells-total
 returns-then-cells-total c =
     let a = c.args in
-    let k = c.fill_table-levels in
+    let k = c.fill_table in
     let all = small-case a.state a.values.now a.care.now a.work.now a.roots.now a.cells.now c.if-roots-lt-ROOTS.false
-    k.result k.new.work k.ensures.levels k.ensures.work c.in-Done.total c.in-Done.is c.if-cells-total.true c.clear.new.work
+    k.new.work k.ensures.work c.in_ok-levels.levels (sym k.ensures.levels ∙ c.in_ok-levels.was) c.if-cells-total.true c.clear.new.work
     c.clear.ensures in
     record {
       outcome = all.0;
@@ -35,10 +37,9 @@ returns-then-cells-total c =
 pub lay_out-requires : goal.lay_out-requires
 lay_out-requires c =
     let a = c.args in
-    let k = c.fill_table-levels in
+    let k = c.fill_table in
     let all = ready a.state a.values.now a.care.now a.work.now a.roots.now a.cells.now c.if-roots-lt-ROOTS.false
-    k.result
-    k.new.work k.ensures.levels k.ensures.work c.in-Done.total c.in-Done.is c.if-cells-total.false in
+    k.new.work k.ensures.work c.in_ok-levels.levels (sym k.ensures.levels ∙ c.in_ok-levels.was) c.if-cells-total.false in
     record {
       n_le_most_variables = all.0;
       total_value = all.1.0;
@@ -49,12 +50,12 @@ lay_out-requires c =
 pub returns : goal.returns
 returns c =
     let a = c.args in
-    let k = c.fill_table-levels in
+    let k = c.fill_table in
     let y = c.lay_out in
     let all = built-case a.state a.values.now a.care.now a.work.now a.roots.now a.cells.now c.if-roots-lt-ROOTS.false
-    k.result k.new.work k.ensures.levels k.ensures.work c.in-Done.total c.in-Done.is c.if-cells-total.false y.new.work
+    k.new.work k.ensures.work c.in_ok-levels.levels (sym k.ensures.levels ∙ c.in_ok-levels.was) c.if-cells-total.false y.new.work
     y.new.roots y.new.cells y.ensures.work y.ensures.cells y.ensures.roots
-    c.with_network-after.result c.with_network-after.ensures in
+    c.with_network.result c.with_network.ensures in
     record {
       outcome = all.0;
       roots = all.1.0;
@@ -64,13 +65,14 @@ returns c =
       fit = all.1.1.1.1.1;
     }
 
-pub returns-in_default : goal.returns-in_default
-returns-in_default c =
+pub returns-in_err-levels : goal.returns-in_err-levels
+returns-in_err-levels c =
     let a = c.args in
-    let k = c.fill_table-levels in
+    let k = c.fill_table in
+    let p = err_from_is_err_and c.from_residual.result c.from_residual.ensures.1 in
     let all = refused-case a.state a.values.now a.care.now a.work.now a.roots.now a.cells.now c.if-roots-lt-ROOTS.false
-    k.result k.new.work k.ensures.levels k.ensures.work c.in_default.not-Done in
-    record {
+    k.new.work k.ensures.work c.in_err-levels.field-0.0 (sym k.ensures.levels ∙ c.in_err-levels.was) in
+    rw (p.1, p.2) record {
       outcome = all.0;
       roots = all.1.0;
       cells = all.1.1.0;

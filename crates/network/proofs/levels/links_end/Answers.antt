@@ -1,31 +1,24 @@
-use mathlib.Core.Path.{◌≡◌, ap, ◌∙◌}
-use native.Mathlib.Omega.{arith}
+use Rattle.std.proofs.Common.{◌<◌, ◌≤◌, ◌+◌, ◌*◌, arith, get_or, take}
+use lib.Seq.{get_or-take}
+use Rattle.std.proofs.lemmas.List.{length-take}
 use Rattle.fill.proofs.Buffers.Sizes.{work-size, links-at}
-use Rattle.network.specs.Levels.{level_at}
-use Rattle.network.proofs.LinksRead.Offsets.{first-at, next-at, within}
+use Rattle.network.proofs.LinksRead.Offsets.{first-at, within}
 use Rattle.network.proofs.levels.links_end.Goals as goal
+use Rattle.network.proofs.levels.links_end.Goals.{In-loop-e}
 
-pub loop-p-init : goal.loop-p-init
-loop-p-init c =
-    (omega arith, omega (arith, first-at c.args.m c.args.entries, links-at))
-
-pub overflow_mul-end-in-loop-p : goal.overflow_mul-end-in-loop-p
-overflow_mul-end-in-loop-p c =
+-- a level's links end where those of all levels end, or before
+ends : (c : In-loop-e) → c.loop-e.end + 4 * get_or (take c.args.n c.args.entries) c.loop-e.e-index 0 ≤ 32768
+ends c =
     let a = c.args in
-    omega (arith, within a.m a.entries c.loop-p.p a.n c.loop-p-test.true, work-size)
+    let p = c.loop-e.e-index in
+    let h : p < a.n = omega (arith, length-take a.n a.entries) in
+    omega (arith, c.loop-e.invariant, within a.m a.entries p a.n h, get_or-take a.n a.entries p 0 h, work-size)
 
-pub overflow_add-end-in-loop-p : goal.overflow_add-end-in-loop-p
-overflow_add-end-in-loop-p c =
-    let a = c.args in
-    omega (arith, within a.m a.entries c.loop-p.p a.n c.loop-p-test.true, work-size)
+pub loop-e-init : goal.loop-e-init
+loop-e-init c = omega (arith, first-at c.args.m c.args.entries, links-at)
 
-pub loop-p-preserved : goal.loop-p-preserved
-loop-p-preserved c =
-    let a = c.args in
-    (omega arith, omega (arith, next-at a.m a.entries c.loop-p.p, c.loop-p.invariant.1))
+pub overflow_mul-end-in-loop-e : goal.overflow_mul-end-in-loop-e
+overflow_mul-end-in-loop-e c = omega (arith, ends (goal.at.overflow_mul-end-in-loop-e c).In-loop-e)
 
-pub returns : goal.returns
-returns c =
-    let a = c.args in
-    let h : c.loop-p.p ≡ a.n = omega arith in
-    c.loop-p.invariant.1 ∙ ap (level_at a.m a.entries) h
+pub overflow_add-end-in-loop-e : goal.overflow_add-end-in-loop-e
+overflow_add-end-in-loop-e c = omega (arith, ends (goal.at.overflow_add-end-in-loop-e c).In-loop-e)

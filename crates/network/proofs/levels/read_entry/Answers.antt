@@ -26,10 +26,6 @@ pub stored_at-k-requires : goal.stored_at-k-requires
 stored_at-k-requires c =
     omega (arith, work-size)
 
-pub overflow_add-i : goal.overflow_add-i
-overflow_add-i c =
-    omega (arith, work-size)
-
 pub stored_at-l-requires : goal.stored_at-l-requires
 stored_at-l-requires c =
     omega (arith, work-size)

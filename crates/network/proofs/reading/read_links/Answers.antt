@@ -1,5 +1,7 @@
 -- `network::reading::read_links` meets its contract: each way it ends is a law of `ReadCases`.
 -- Assumes nothing.
+use mathlib.Core.Path.{sym, ◌∙◌}
+use Rattle.std.proofs.lemmas.Result.{err_from_is_err_and}
 use Rattle.network.proofs.LinksRead.ReadCases.{short-case, refused-case, small-case, ready, read-case}
 use Rattle.network.proofs.reading.read_links.Goals as goal
 
@@ -13,16 +15,14 @@ pub returns-then-cells-total : goal.returns-then-cells-total
 returns-then-cells-total c =
     let a = c.args in
     let all = small-case a.n a.m a.entries a.work.now a.roots.now a.cells.now c.if-roots-lt-ROOTS.false
-    c.count_links-levels.result
-    c.count_links-levels.ensures c.in-Done.total c.in-Done.is c.if-cells-total.true c.clear.new.work c.clear.ensures in
+    c.in_ok-levels.levels (sym c.count_links.ensures ∙ c.in_ok-levels.was) c.if-cells-total.true c.clear.new.work c.clear.ensures in
     record { answer = all.0; roots = all.1.0; cells = all.1.1.0; work = all.1.1.1 }
 
 pub lay_out-requires : goal.lay_out-requires
 lay_out-requires c =
     let a = c.args in
     let all = ready a.n a.m a.entries a.work.now a.roots.now a.cells.now c.if-roots-lt-ROOTS.false
-    c.count_links-levels.result
-    c.count_links-levels.ensures c.in-Done.total c.in-Done.is c.if-cells-total.false in
+    c.in_ok-levels.levels (sym c.count_links.ensures ∙ c.in_ok-levels.was) c.if-cells-total.false in
     record {
       n_le_most_variables = all.0;
       total_value = all.1.0;
@@ -35,14 +35,14 @@ returns c =
     let a = c.args in
     let y = c.lay_out in
     let all = read-case a.n a.m a.entries a.work.now a.roots.now a.cells.now c.if-roots-lt-ROOTS.false
-    c.count_links-levels.result
-    c.count_links-levels.ensures c.in-Done.total c.in-Done.is c.if-cells-total.false y.new.work y.new.roots
+    c.in_ok-levels.levels (sym c.count_links.ensures ∙ c.in_ok-levels.was) c.if-cells-total.false y.new.work y.new.roots
     y.new.cells y.ensures.work y.ensures.cells y.ensures.roots in
     record { answer = all.0; roots = all.1.0; cells = all.1.1.0; work = all.1.1.1 }
 
-pub returns-in_default : goal.returns-in_default
-returns-in_default c =
+pub returns-in_err-levels : goal.returns-in_err-levels
+returns-in_err-levels c =
     let a = c.args in
-    let k = c.count_links-levels in
-    let all = refused-case a.n a.m a.entries a.work.now a.roots.now a.cells.now c.if-roots-lt-ROOTS.false k.result k.ensures
-    c.in_default.not-Done in record { answer = all.0; roots = all.1.0; cells = all.1.1.0; work = all.1.1.1 }
+    let p = err_from_is_err_and c.from_residual.result c.from_residual.ensures.1 in
+    let all = refused-case a.n a.m a.entries a.work.now a.roots.now a.cells.now c.if-roots-lt-ROOTS.false
+    c.in_err-levels.field-0.0 (sym c.count_links.ensures ∙ c.in_err-levels.was) in
+    rw (p.1, p.2) record { answer = all.0; roots = all.1.0; cells = all.1.1.0; work = all.1.1.1 }

@@ -1,7 +1,7 @@
 -- `network_file::blocks::write_blocks` meets its contract. The loop's invariant: the blocks before block k are written.
 -- Assumes nothing.
 use mathlib.Core.Path.{◌≡◌}
-use Prim.Native.Nat.{suc, ◌*◌, ◌-◌, ◌≤◌}
+use Prim.Native.Nat.{suc, ◌*◌, ◌≤◌}
 use Rattle.lists.specs.Written.{over}
 use Rattle.block.specs.Block.{block_size}
 use Rattle.network_file.specs.Write.{file_byte}

@@ -2,7 +2,7 @@
 -- are in the sum.
 -- Assumes nothing.
 use mathlib.Core.Path.{◌≡◌}
-use Prim.Native.Nat.{suc, ◌+◌, ◌*◌, ◌-◌, ◌≤◌}
+use Prim.Native.Nat.{suc, ◌+◌, ◌*◌, ◌≤◌}
 use Rattle.lists.specs.Sums.{sum_below}
 use Rattle.lists.specs.Written.{over}
 use Rattle.block.specs.Block.{block_size, check_at}

@@ -1,44 +1,54 @@
+-- `network_file::file::blocks_answer` meets its contract: the first refusal is the answer, and after the last block a success.
+-- Assumes nothing.
 use mathlib.Core.Path.{sym, ap, ◌∙◌}
-use borrow.Author.Tests.{not-true, not-false}
+use Prim.Native.Nat.{◌+◌}
 use native.Mathlib.Omega.{arith}
-use Rattle.table.specs.Answer.{done, first_refusal}
+use Rattle.std.proofs.lemmas.Result.{err_from_is_err_and}
+use Rattle.table.specs.Answer.{done}
 use Rattle.table.proofs.Files.Answers.{refusal-next, refusal-stop, refusal-end}
 use Rattle.network_file.specs.File.{cells_block}
 use Rattle.network_file.proofs.Reading.BlockRead.{read-further}
 use Rattle.network_file.proofs.file.blocks_answer.Goals as goal
 
-pub loop-k-init : goal.loop-k-init
-loop-k-init c =
-    let a = c.args in
-    (omega arith, omega arith, ap (first_refusal (cells_block a.count a.file.now) 1) (omega arith))
-
-pub returns-then-not-is_done : goal.returns-then-not-is_done
-returns-then-not-is_done c =
-    let x = c.block_answer-answer in
+pub returns-in_err-block_answer : goal.returns-in_err-block_answer
+returns-in_err-block_answer c =
+    let p = err_from_is_err_and c.from_residual.result c.from_residual.ensures.1 in
     let l = c.loop-k in
     let a = c.args in
     let d = read-further a.count a.file.now l.k (λ e. omega arith) in
-    x.ensures ∙ d
-    ∙ sym
-    (l.invariant.2
+    let e = sym (c.block_answer.ensures ∙ d) ∙ c.in_err-block_answer.was in
+    rw (p.1, p.2)
+    (sym
+    (l.invariant.1
     ∙ refusal-stop (cells_block a.count a.file.now) a.blocks l.k (omega arith)
-    (ap done (sym (x.ensures ∙ d)) ∙ sym c.is_done.ensures ∙ not-true _ c.if-not-is_done.true-raw))
+    (ap done e)
+    ∙ e))
 
 pub loop-k-preserved : goal.loop-k-preserved
 loop-k-preserved c =
-    let x = c.block_answer-answer in
     let l = c.loop-k in
     let a = c.args in
     let d = read-further a.count a.file.now l.k (λ e. omega arith) in (
       omega arith,
-      omega arith,
-      l.invariant.2
+      l.invariant.1
           ∙ refusal-next (cells_block a.count a.file.now) a.blocks l.k (omega arith)
-          (ap done (sym (x.ensures ∙ d)) ∙ sym c.is_done.ensures ∙ not-false _ c.if-not-is_done.false-raw),
+          (ap done (sym (c.block_answer.ensures ∙ d) ∙ c.in_ok-block_answer.was)),
     )
 
 pub returns : goal.returns
 returns c =
     let l = c.loop-k in
     let a = c.args in
-    sym (l.invariant.2 ∙ refusal-end (cells_block a.count a.file.now) a.blocks l.k (omega arith))
+    sym (l.invariant.1 ∙ refusal-end (cells_block a.count a.file.now) a.blocks l.k (omega arith))
+
+-- the last block
+pub returns-in_ok-block_answer : goal.returns-in_ok-block_answer
+returns-in_ok-block_answer c =
+    let l = c.loop-k in
+    let a = c.args in
+    let d = read-further a.count a.file.now l.k (λ e. omega arith) in
+    sym
+    (l.invariant.1
+    ∙ refusal-next (cells_block a.count a.file.now) a.blocks l.k (omega arith)
+    (ap done (sym (c.block_answer.ensures ∙ d) ∙ c.in_ok-block_answer.was))
+    ∙ refusal-end (cells_block a.count a.file.now) a.blocks (l.k + 1) (omega arith))

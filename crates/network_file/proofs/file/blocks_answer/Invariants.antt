@@ -7,8 +7,5 @@ use Rattle.network_file.specs.File.{cells_block}
 use Rattle.network_file.proofs.file.blocks_answer.Given as goal
 
 abbrev pub invariant-loop-k : goal.invariant-loop-k
-invariant-loop-k l = (1 ≤ l.k) × (l.k ≤ suc l.blocks)
+invariant-loop-k l = (1 ≤ l.k)
     × (first_refusal (cells_block l.count l.file) 1 l.blocks ≡ first_refusal (cells_block l.count l.file) l.k (suc l.blocks - l.k))
-
-abbrev pub decreases-loop-k : goal.decreases-loop-k
-decreases-loop-k l = suc l.blocks - l.k

@@ -1,43 +1,41 @@
 -- `network_file::file::file_answer` meets its contract: each answer by the tests that led to it.
 -- Assumes nothing.
-use mathlib.Core.Path.{◌≡◌, sym, ap, ◌∙◌}
+use mathlib.Core.Path.{◌≡◌, refl, sym, ap, ◌∙◌}
 use mathlib.Core.Bool.{true}
 use borrow.Author.Tests.{not-true, not-false}
 use Rattle.block.specs.Block.{whole_blocks}
-use Rattle.table.specs.Answer.{done}
+use Rattle.std.specs.Prelude.{Ok}
+use Rattle.std.proofs.lemmas.Result.{err_from_is_err_and}
 use Rattle.network_file.specs.File.{network_heading, cells_answer, network_file_answer}
 use Rattle.network_file.proofs.Reading.BlockRead.{read-heading}
 use Rattle.network_file.proofs.file.file_answer.Goals as goal
-use Rattle.network_file.proofs.file.file_answer.Goals.{After-block_answer-answer, Else-not-whole_blocks}
+use Rattle.network_file.proofs.file.file_answer.Goals.{In_ok-block_answer, Else-not-whole_blocks}
 
 whole : (c : Else-not-whole_blocks) → whole_blocks c.args.file.now ≡ true
 whole c = sym c.whole_blocks.ensures ∙ not-false _ c.if-not-whole_blocks.false-raw
 
 -- block 0's answer is the heading's
-heading : (c : After-block_answer-answer) → c.block_answer-answer.result ≡ network_heading c.args.file.now
-heading c = c.block_answer-answer.ensures ∙ read-heading 0 c.args.file.now
+passed : (c : In_ok-block_answer) → network_heading c.args.file.now ≡ Ok c.in_ok-block_answer.field-0
+passed c = sym (c.block_answer.ensures ∙ read-heading 0 c.args.file.now) ∙ c.in_ok-block_answer.was
 
 pub returns-then-not-whole_blocks : goal.returns-then-not-whole_blocks
 unfolding network_file_answer
 returns-then-not-whole_blocks c =
     rw (sym c.whole_blocks.ensures ∙ not-true _ c.if-not-whole_blocks.true-raw)
 
-pub returns-then-not-is_done : goal.returns-then-not-is_done
+pub returns-in_err-block_answer : goal.returns-in_err-block_answer
 unfolding network_file_answer
-returns-then-not-is_done c =
+returns-in_err-block_answer c =
+    let p = err_from_is_err_and c.from_residual.result c.from_residual.ensures.1 in
     rw (
-      whole (goal.at.returns-then-not-is_done c).Else-not-whole_blocks,
-      ← heading (goal.at.returns-then-not-is_done c).After-block_answer-answer,
-      sym c.is_done.ensures
-          ∙ not-true _ c.if-not-is_done.true-raw,
-    )
+      p.1,
+      p.2,
+      whole (goal.at.returns-in_err-block_answer c).Else-not-whole_blocks,
+      sym (c.block_answer.ensures ∙ read-heading 0 c.args.file.now) ∙ c.in_err-block_answer.was,
+    ) refl
 
 pub returns : goal.returns
 unfolding network_file_answer
 returns c =
-    rw (
-      whole (goal.at.returns c).Else-not-whole_blocks,
-      ap done (sym (heading (goal.at.returns c).After-block_answer-answer)) ∙ sym c.is_done.ensures
-          ∙ not-false _ c.if-not-is_done.false-raw,
-    )
+    rw (whole (goal.at.returns c).Else-not-whole_blocks, passed (goal.at.returns c).In_ok-block_answer)
     (c.cells_answer.ensures ∙ ap (cells_answer c.args.file.now) c.file_count.ensures.0)

@@ -3,7 +3,6 @@
 use mathlib.Core.Path.{◌≡◌, sym, ap₂, ◌∙◌}
 use mathlib.Core.Bool.{true}
 use Prim.Native.Nat.{ℕ}
-use borrow.Author.Tests.{not-true, not-false}
 use Rattle.diagram.specs.Networks.Diagram.{well_formed}
 use Rattle.lent.specs.Lent.{diagram_by}
 use Rattle.lent.proofs.Tested.{formed-not, formed-rest}
@@ -23,23 +22,24 @@ own-formed c =
     ap₂ (λ (x y : ℕ). well_formed true a.n a.m (diagram_by x y (cell_number f) (file_root f))) c.requires.count_value.0
     c.requires.count_value.1
 
-pub returns-then-not-roots_good : goal.returns-then-not-roots_good
-returns-then-not-roots_good c =
+pub returns-else-roots_good : goal.returns-else-roots_good
+returns-else-roots_good c =
     let a = c.args in
     let f = a.file.now in
     let g = c.roots_good in
-    sym
-    (sym (own-formed (goal.at.returns-then-not-roots_good c).Start)
+    c.if-roots_good.false
+    ∙ sym
+    (sym (own-formed (goal.at.returns-else-roots_good c).Start)
     ∙ formed-not a.count (cell_number f) (file_root f) a.m a.n
-    (sym g.ensures ∙ not-true g.result c.if-not-roots_good.true-raw))
+    (sym g.ensures ∙ c.if-roots_good.false))
 
-pub returns : goal.returns
-returns c =
+pub returns-then-roots_good : goal.returns-then-roots_good
+returns-then-roots_good c =
     let a = c.args in
     let f = a.file.now in
     let g = c.roots_good in
     c.nodes_good.ensures
     ∙ sym
     (formed-rest a.count (cell_number f) (file_root f) a.m a.n
-    (sym g.ensures ∙ not-false g.result c.if-not-roots_good.false-raw))
-    ∙ own-formed (goal.at.returns c).Start
+    (sym g.ensures ∙ c.if-roots_good.true))
+    ∙ own-formed (goal.at.returns-then-roots_good c).Start

@@ -1,18 +1,18 @@
 -- `network_file::read::read_cells` meets its contract: a refusal and a success, each by its law of `ReadCall`.
 -- Assumes nothing.
-use mathlib.Core.Path.{sym, ◌∙◌}
-use borrow.Author.Tests.{not-true, not-false}
+use Rattle.std.proofs.lemmas.Result.{err_from_is_err_and}
 use Rattle.network_file.proofs.Reading.ReadCall.{refusal, readable, reading}
 use Rattle.network_file.proofs.read.read_cells.Goals as goal
 
-pub returns-then-not-is_done : goal.returns-then-not-is_done
-returns-then-not-is_done c =
+pub returns-in_err-value : goal.returns-in_err-value
+returns-in_err-value c =
     let x = c.answer_of-answer in
     let w = c.clear_after in
     let a = c.args in
-    let all = refusal a.state a.file.now a.values.now a.care.now a.work.now a.roots.now a.cells.now x.result
-    x.ensures w.new.work w.ensures (sym c.is_done.ensures ∙ not-true _ c.if-not-is_done.true-raw) in
-    record {
+    let p = err_from_is_err_and c.from_residual.result c.from_residual.ensures.1 in
+    let all = refusal a.file.now a.values.now a.care.now a.work.now a.roots.now a.cells.now x.result
+    x.ensures w.new.work w.ensures c.in_err-value.field-0.0 c.in_err-value.was in
+    rw (p.1, p.2) record {
       outcome = all.0;
       values = all.1.0;
       care = all.1.1.0;
@@ -27,8 +27,8 @@ write_network-requires c =
     let x = c.answer_of-answer in
     let w = c.clear_after in
     let a = c.args in record {
-      readable = readable a.state a.file.now a.values.now a.care.now a.work.now a.roots.now a.cells.now x.result
-          x.ensures w.new.work w.ensures (sym c.is_done.ensures ∙ not-false _ c.if-not-is_done.false-raw);
+      readable = readable a.file.now a.values.now a.care.now a.work.now a.roots.now a.cells.now x.result
+          x.ensures w.new.work w.ensures c.in_ok-value.value c.in_ok-value.was;
       after_value = c.file_state-after.ensures;
     }
 
@@ -39,8 +39,8 @@ returns c =
     let x = c.answer_of-answer in
     let w = c.clear_after in
     let a = c.args in
-    let all = reading a.state a.file.now a.values.now a.care.now a.work.now a.roots.now a.cells.now x.result
-    x.ensures w.new.work w.ensures (sym c.is_done.ensures ∙ not-false _ c.if-not-is_done.false-raw) t.result
+    let all = reading a.file.now a.values.now a.care.now a.work.now a.roots.now a.cells.now x.result
+    x.ensures w.new.work w.ensures c.in_ok-value.value c.in_ok-value.was t.result
     y.new.values y.new.care y.new.roots y.new.cells t.ensures y.ensures.values
     y.ensures.care y.ensures.roots y.ensures.cells in
     record {

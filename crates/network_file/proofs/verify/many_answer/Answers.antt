@@ -18,11 +18,11 @@ own : (c : After-file_good)
 own c =
     let f = c.args.file.now in
     c.file_good.ensures
-    ∙ ap₂ (λ (x y : ℕ). well_formed true x y (file_diagram f)) c.block_byte-n.ensures.0 c.block_byte-m.ensures.0
+    ∙ ap₂ (λ (x y : ℕ). well_formed true x y (file_diagram f)) c.byte-n.ensures.0 c.byte-m.ensures.0
 
 pub file_good-requires : goal.file_good-requires
 file_good-requires c =
-    let m = c.block_byte-m.ensures in record {
+    let m = c.byte-m.ensures in record {
       count_value = (c.requires.count_value.0, m.0);
       count_lt_number_limit = (c.requires.count_value.2, omega (arith, m.0, (shape_of c.args.file.now c.requires.file_value).outputs));
     }

@@ -52,30 +52,30 @@ pub write_blocks-requires : goal.write_blocks-requires
 write_blocks-requires c =
     let x = c.test_held-answer in
     let a = c.args in
-    let p = ap done (sym x.ensures) ∙ sym c.is_done.ensures ∙ c.if-is_done.true in (
+    let p = ap done (sym x.ensures) ∙ sym c.if-is_ok.ensures.value in (
       writable a.state a.roots.now a.cells.now (success a.state a.roots.now a.cells.now (to-T p)),
       long-file (goal.at.write_blocks-requires c).Else-file-lt-FILE,
     )
 
-pub returns-then-is_done : goal.returns-then-is_done
-returns-then-is_done c =
+pub returns-then-is_ok : goal.returns-then-is_ok
+returns-then-is_ok c =
     let y = c.write_blocks in
     let w = c.clear_after in
     let x = c.test_held-answer in
     let a = c.args in
     let all = succeeded a.state a.roots.now a.cells.now a.work.now a.file.now
-    (long-roots (goal.at.returns-then-is_done c).Else-file-lt-FILE)
-    (long-work (goal.at.returns-then-is_done c).Else-file-lt-FILE)
-    (long-file (goal.at.returns-then-is_done c).Else-file-lt-FILE) x.result x.ensures w.new.work w.ensures
-    (sym c.is_done.ensures ∙ c.if-is_done.true) y.new.file y.ensures in record { answer = all.0; work = all.1.0; file = all.1.1 }
+    (long-roots (goal.at.returns-then-is_ok c).Else-file-lt-FILE)
+    (long-work (goal.at.returns-then-is_ok c).Else-file-lt-FILE)
+    (long-file (goal.at.returns-then-is_ok c).Else-file-lt-FILE) x.result x.ensures w.new.work w.ensures
+    (sym c.if-is_ok.ensures.value) y.new.file y.ensures in record { answer = all.0; work = all.1.0; file = all.1.1 }
 
-pub returns-else-is_done : goal.returns-else-is_done
-returns-else-is_done c =
+pub returns-else-is_ok : goal.returns-else-is_ok
+returns-else-is_ok c =
     let w = c.clear_after in
     let x = c.test_held-answer in
     let a = c.args in
     let all = refused a.state a.roots.now a.cells.now a.work.now a.file.now
-    (long-roots (goal.at.returns-else-is_done c).Else-file-lt-FILE)
-    (long-work (goal.at.returns-else-is_done c).Else-file-lt-FILE)
-    (long-file (goal.at.returns-else-is_done c).Else-file-lt-FILE) x.result x.ensures w.new.work w.ensures
-    (sym c.is_done.ensures ∙ c.if-is_done.false) in record { answer = all.0; work = all.1.0; file = all.1.1 }
+    (long-roots (goal.at.returns-else-is_ok c).Else-file-lt-FILE)
+    (long-work (goal.at.returns-else-is_ok c).Else-file-lt-FILE)
+    (long-file (goal.at.returns-else-is_ok c).Else-file-lt-FILE) x.result x.ensures w.new.work w.ensures
+    (sym c.if-is_ok.ensures.value) in record { answer = all.0; work = all.1.0; file = all.1.1 }

@@ -1,18 +1,15 @@
 -- `printed::output::print_outcome` meets its contract.
 -- Assumes nothing.
-use mathlib.Core.Path.{sym, ◌∙◌}
-use borrow.Author.Tests.{not-true, not-false}
 use Rattle.printed.proofs.Texts.OutputCases.{written-unbuilt, written-built}
 use Rattle.printed.proofs.output.print_outcome.Goals as goal
 
-pub returns-then-not-is_done : goal.returns-then-not-is_done
-returns-then-not-is_done c =
+pub returns-in-Err : goal.returns-in-Err
+returns-in-Err c =
     let a = c.args in
-    written-unbuilt a.outcome a.care.now a.roots.now a.cells.now
-    (sym c.is_done.ensures ∙ not-true _ c.if-not-is_done.true-raw) c.refusal.ensures
+    written-unbuilt a.outcome a.care.now a.roots.now a.cells.now c.in-Err.refused c.in-Err.is c.refusal.ensures
 
-pub returns : goal.returns
-returns c =
+pub returns-in-Ok : goal.returns-in-Ok
+returns-in-Ok c =
     let a = c.args in
-    written-built a.outcome a.care.now a.roots.now a.cells.now c.cared_bits.result
-    (sym c.is_done.ensures ∙ not-false _ c.if-not-is_done.false-raw) c.cared_bits.ensures c.network_text.ensures
+    written-built a.outcome a.care.now a.roots.now a.cells.now c.in-Ok.built c.in-Ok.is c.cared_bits.result
+    c.cared_bits.ensures c.network_text.ensures

@@ -1,94 +1,92 @@
-use borrow.Author.Rules.{rules}
-use mathlib.Core.Path.{◌≡◌, refl, ap, ap₂, ◌∙◌}
-use mathlib.Core.List.{List}
-use Prim.Native.Nat.{ℕ, ◌+◌, ◌^◌, ◌≤◌, min}
-use native.Mathlib.Nat.{min-le_left, min-le_right}
-use native.Mathlib.Omega.{arith}
-use lib.ListN.{length, set, length-set}
-use Rattle.reorder.specs.Sizes.{width}
+-- Byte i of both planes is gathered from the rows of the map that it stands for. Assumes nothing.
+use Rattle.std.proofs.Common.{◌≡◌, refl, sym, ap, ap₂, ◌∙◌, ℕ, ◌+◌, ◌-◌, ◌*◌, ◌≤◌, ◌<◌, List, ◌++◌, map, length, take, drop, arith}
+use Rattle.std.proofs.Common.{append_assoc, append-nil, drop-drop, length-drop, length-take, drop_of_length-le}
+use lib.Seq.{length-take-le}
+use Rattle.lists.specs.Lists.{up_to}
+use Rattle.lists.specs.Written.{over}
+use Rattle.lists.proofs.Written.Over.{over-next}
 use Rattle.reorder.specs.Gather.{gathered_byte}
-use Rattle.reorder.proofs.WrittenBytes.{written_both, both-none, both-more, both-all}
-use Rattle.reorder.proofs.Shifts.{byte-within, width-met}
+use Rattle.reorder.proofs.Gathered.{gathered-rows}
+use Rattle.reorder.proofs.Shifts.{most-rows, rows-room, byte-within, width-met}
 use Rattle.reorder.proofs.gather.gather.Goals as goal
-use Rattle.reorder.proofs.gather.gather.Goals.{At-loop-i}
+use Rattle.reorder.proofs.gather.gather.Goals.{In-loop-i}
 
-pub loop-i-init : goal.loop-i-init
-loop-i-init c =
-    let a = c.args in
-    let f : List ℕ → ℕ → ℕ = λ plane. gathered_byte plane a.base a.map.now c.rows_in-k.result in
-    (search rules, refl, both-none (f a.values.now) (f a.care.now) c.width_of-w.result a.part.now)
+pub split_at_mut-values-requires : goal.split_at_mut-values-requires
+split_at_mut-values-requires c =
+    omega (arith, c.width_of-w.ensures ∙ width-met c.args.n c.requires.variables, c.requires.room)
 
--- the bytes of a plane
-wide : (c : At-loop-i)
-    → c.width_of-w.result ≡ width c.args.n
-wide c =
-    c.width_of-w.ensures ∙ width-met c.args.n c.requires.n_le_most_variables.0
-
--- both planes are within the part
-inside : (c : At-loop-i)
-    → c.width_of-w.result + c.width_of-w.result
-    ≤ length c.args.part.now
-inside c = omega (arith, c.requires.n_in_bounds.1, wide c)
-
-pub gather_bytes-bytes-requires : goal.gather_bytes-bytes-requires
-gather_bytes-bytes-requires c =
-    let a = c.args in
-    let k = c.rows_in-k.ensures in
-    let l = c.shorter-limit.ensures in
-    let w = wide (goal.at.gather_bytes-bytes-requires c).At-loop-i in
-    let h = byte-within a.n c.loop-i.i (omega arith) in record {
-      k_bound = (omega (arith, min-le_left 8 (2 ^ a.n)), omega (arith, c.requires), c.requires.n_le_most_variables.1);
-      limit_in_bounds = (
-        omega (arith, min-le_left (length a.values.now) (length a.care.now)),
-        omega (arith, min-le_right (length a.values.now) (length a.care.now)),
-      );
-    }
-
-pub bounds-part-i : goal.bounds-part-i
-bounds-part-i c =
-    omega (arith, inside (goal.at.bounds-part-i c).At-loop-i)
-
-pub overflow_add-part : goal.overflow_add-part
-overflow_add-part c =
+-- the rows of byte i are among those of the map, and both planes have that byte
+within : (c : In-loop-i)
+    → (8 * c.loop-i.i + c.rows_in-k.result ≤ length c.args.map.now) × (8 * c.loop-i.i ≤ 1024)
+    × (c.loop-i.i < length c.split_at_mut-values.result.1.now)
+within c =
+    let n = c.args.n in
+    let w = c.width_of-w.ensures ∙ width-met n c.requires.variables in
     omega (
       arith,
-      inside (goal.at.overflow_add-part c).At-loop-i,
-      c.well_formed.1.1.1.1.1.0,
+      w,
+      byte-within n c.loop-i.i (omega (arith, c.loop-i-test.true, w)),
+      c.rows_in-k.ensures,
+      c.requires.rows_mapped,
+      c.requires.room,
+      rows-room n c.requires.variables,
+      most-rows,
+      length-drop c.width_of-w.result c.args.part.now,
+      ap length c.split_at_mut-values.ensures.back,
     )
 
-pub bounds-part-w : goal.bounds-part-w
-bounds-part-w c =
-    let l = c.loop-i in
-    omega (arith, inside (goal.at.bounds-part-w c).At-loop-i, length-set l.part l.i c.gather_bytes-bytes.result.values)
+pub overflow_mul-start : goal.overflow_mul-start
+overflow_mul-start c = omega (arith, within (goal.at.overflow_mul-start c).In-loop-i)
+
+pub overflow_add-start : goal.overflow_add-start
+overflow_add-start c = omega (arith, within (goal.at.overflow_add-start c).In-loop-i)
+
+pub offset_bounds-map-start : goal.offset_bounds-map-start
+offset_bounds-map-start c = omega (arith, within (goal.at.offset_bounds-map-start c).In-loop-i)
+
+pub slice_bounds-gathered-end : goal.slice_bounds-gathered-end
+slice_bounds-gathered-end c = omega (arith, within (goal.at.slice_bounds-gathered-end c).In-loop-i)
+
+pub bounds-care-i : goal.bounds-care-i
+bounds-care-i c = omega (arith, within (goal.at.bounds-care-i c).In-loop-i)
 
 pub loop-i-preserved : goal.loop-i-preserved
 loop-i-preserved c =
     let a = c.args in
-    let l = c.loop-i in
-    let g = c.gather_bytes-bytes in
-    let w = c.width_of-w.result in
-    let f : List ℕ → ℕ → ℕ = λ plane. gathered_byte plane a.base a.map.now c.rows_in-k.result in (
-      search rules,
-      length-set (set l.part l.i g.result.values) (w + l.i) g.result.care
-          ∙ length-set l.part l.i g.result.values ∙ l.invariant.1,
-      both-more (f a.values.now) (f a.care.now) w a.part.now l.i g.result.values g.result.care l.part
-          (omega arith) (inside (goal.at.loop-i-preserved c).At-loop-i) l.invariant.2 g.ensures.values g.ensures.care,
+    let k = c.rows_in-k.result in
+    let i = c.loop-i.i in
+    let g = c.gathered-bytes in
+    let w = within (goal.at.loop-i-preserved c).In-loop-i in
+    let n = 8 * i + k - 8 * i in
+    let rows = take n (drop (8 * i) a.map.now) in
+    let same : n ≡ k = omega arith in
+    let long : length rows ≡ k = length-take-le n (drop (8 * i) a.map.now) (omega (arith, w, length-drop (8 * i) a.map.now)) ∙ same in (
+      over-next (gathered_byte a.planes.now.values.now a.base a.map.now k) _ _ i _ (omega arith) c.loop-i.invariant.0
+          (g.ensures.values ∙ gathered-rows a.planes.now.values.now a.base a.map.now k i n rows refl same long),
+      over-next (gathered_byte a.planes.now.care.now a.base a.map.now k) _ _ i _ (omega (arith, w)) c.loop-i.invariant.1
+          (g.ensures.care ∙ gathered-rows a.planes.now.care.now a.base a.map.now k i n rows refl same long),
     )
 
-pub shape_of-part : goal.shape_of-part
-shape_of-part c =
-    c.loop-i.invariant.1
+-- both planes, of w bytes each at the front of l, are written over altogether
+whole : (f g : ℕ → ℕ) (w : ℕ) (l : List ℕ) → over f w (take w l) ++ over g w (drop w l) ≡ map f (up_to w) ++ map g (up_to w) ++ drop (w + w) l
+whole f g w l =
+    ap₂ (λ (x y : List ℕ). (map f (up_to w) ++ x) ++ (map g (up_to w) ++ y))
+    (drop_of_length-le (take w l) (omega (arith, length-take w l))) (drop-drop w w l)
+    ∙ ap (λ (x : List ℕ). x ++ (map g (up_to w) ++ drop (w + w) l)) (append-nil (map f (up_to w)))
+    ∙ sym (append_assoc (map f (up_to w)) (map g (up_to w)) (drop (w + w) l))
 
 pub returns : goal.returns
 returns c =
     let a = c.args in
-    let l = c.loop-i in
+    let cut = c.split_at_mut-values.ensures in
     let w = c.width_of-w.result in
-    let f : List ℕ → ℕ → ℕ → ℕ = λ plane k. gathered_byte plane a.base a.map.now k in
-    let e : l.i ≡ w = omega arith in
-    l.invariant.2
-    ∙ ap (written_both (f a.values.now c.rows_in-k.result) (f a.care.now c.rows_in-k.result) w
-    a.part.now) e
-    ∙ ap₂ (λ k m. written_both (f a.values.now k) (f a.care.now k) m a.part.now m) c.rows_in-k.ensures
-    (wide (goal.at.returns c).At-loop-i)
-    ∙ both-all (f a.values.now (min 8 (2 ^ a.n))) (f a.care.now (min 8 (2 ^ a.n))) (width a.n) a.part.now
+    let f : ℕ → ℕ → ℕ = gathered_byte a.planes.now.values.now a.base a.map.now in
+    let g : ℕ → ℕ → ℕ = gathered_byte a.planes.now.care.now a.base a.map.now in
+    let k = c.rows_in-k.result in
+    let e : c.loop-i.i ≡ w = omega arith in
+    ap₂ (λ (x y : List ℕ). x ++ y)
+    (c.loop-i.invariant.0 ∙ ap₂ (λ (n : ℕ) (r : List ℕ). over (f k) n r) e cut.front)
+    (c.loop-i.invariant.1 ∙ ap₂ (λ (n : ℕ) (r : List ℕ). over (g k) n r) e cut.back)
+    ∙ whole (f k) (g k) w a.part.now
+    ∙ ap₂ (λ n m. map (f n) (up_to m) ++ map (g n) (up_to m) ++ drop (m + m) a.part.now) c.rows_in-k.ensures
+    (c.width_of-w.ensures ∙ width-met a.n c.requires.variables)

@@ -1,11 +1,8 @@
--- `reorder::rows::double` meets its contract. The invariant: s rows are written after the first, and the others are as they were.
+-- `reorder::rows::double` meets its contract. The invariant: the first s rows stand again behind the rows, with the share added.
 -- Assumes nothing.
-use mathlib.Core.Path.{◌≡◌}
-use Prim.Native.Nat.{◌+◌, ◌-◌, ◌≤◌}
-use lib.ListN.{length, get_or}
-use Rattle.reorder.proofs.WrittenBytes.{written_from}
+use Rattle.std.proofs.Common.{◌≡◌, ◌+◌, get_or}
+use Rattle.lists.specs.Written.{over}
 use Rattle.reorder.proofs.rows.double.Given as goal
 
 abbrev pub invariant-loop-s : goal.invariant-loop-s
-invariant-loop-s l = (l.s ≤ l.count) × (length l.map ≡ length l.initial.map)
-    × (l.map ≡ written_from (λ j. get_or l.initial.map j 0 + l.share) l.count l.initial.map l.s)
+invariant-loop-s l = l.rest ≡ over (λ s. get_or l.fn.map s 0 + l.share) l.s l.initial.rest

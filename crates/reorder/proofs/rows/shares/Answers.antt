@@ -1,21 +1,15 @@
-use borrow.Author.Rules.{rules}
-use mathlib.Core.Path.{◌≡◌, refl, ap, ◌∙◌}
-use Prim.Native.Nat.{suc, ◌*◌, ◌-◌, ◌%◌, ◌^◌}
-use native.Mathlib.Omega.{arith}
-use Rattle.reorder.proofs.Shares.{level_bit, shares-none, shares-more, shares-room, shares-all}
+-- Each turn adds the share of one variable. Assumes nothing.
+use Rattle.std.proofs.Common.{◌≡◌, refl, ap, ◌∙◌, suc, ◌*◌, ◌-◌, ◌%◌, ◌^◌, arith}
+use Rattle.reorder.proofs.Shares.{level_bit, shares-more, shares-room, shares-all}
 use Rattle.reorder.proofs.rows.shares.Goals as goal
-use Rattle.reorder.proofs.rows.shares.Goals.{After-level_bit-l}
-
-pub loop-v-init : goal.loop-v-init
-loop-v-init c =
-    let a = c.args in (search rules, shares-none a.n a.order)
+use Rattle.reorder.proofs.rows.shares.Goals.{After-saturating_sub-bit}
 
 -- the bit of the variable's level
-at_level : (c : After-level_bit-l)
-    → c.level_bit-l.result
-    ≡ level_bit c.args.n c.args.order
-    c.loop-v.v
-at_level c = c.level_bit-l.ensures ∙ ap (λ p. c.args.n - suc p) c.level_of.ensures
+at_level : (c : After-saturating_sub-bit) → c.saturating_sub-bit.result ≡ level_bit c.args.n c.args.order c.loop-v.v
+at_level c =
+    let n = c.args.n in
+    let e : c.saturating_sub-bit.result ≡ n - suc c.level_of.result = omega arith in
+    e ∙ ap (λ p. n - suc p) c.level_of.ensures
 
 pub overflow_add-shares : goal.overflow_add-shares
 overflow_add-shares c =
@@ -23,21 +17,16 @@ overflow_add-shares c =
     let l = c.loop-v in
     omega (
       arith,
-      shares-room a.n a.order l.v (omega arith) (omega arith) l.shares l.invariant.1 c.level_bit-l.result
-          (1 * 2 ^ (a.n - 1 - l.v) % 65536) (at_level (goal.at.overflow_add-shares c).After-level_bit-l) refl,
+      shares-room a.n a.order l.v (omega arith) (omega arith) l.shares l.invariant c.saturating_sub-bit.result
+          (1 * 2 ^ (a.n - 1 - l.v) % 65536) (at_level (goal.at.overflow_add-shares c).After-saturating_sub-bit) refl,
     )
 
 pub loop-v-preserved : goal.loop-v-preserved
 loop-v-preserved c =
     let a = c.args in
-    let l = c.loop-v in (
-      search rules,
-      shares-more a.n a.order l.v (omega arith) (omega arith) l.shares l.invariant.1 c.level_bit-l.result _
-          (at_level (goal.at.loop-v-preserved c).After-level_bit-l) refl,
-    )
+    let l = c.loop-v in
+    shares-more a.n a.order l.v (omega arith) (omega arith) l.shares l.invariant c.saturating_sub-bit.result _
+    (at_level (goal.at.loop-v-preserved c).After-saturating_sub-bit) refl
 
 pub returns : goal.returns
-returns c =
-    let a = c.args in
-    let l = c.loop-v in
-    l.invariant.1 ∙ shares-all a.n a.order l.v (omega arith)
+returns c = c.loop-v.invariant ∙ shares-all c.args.n c.args.order c.loop-v.v (omega arith)

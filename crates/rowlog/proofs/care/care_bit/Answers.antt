@@ -1,17 +1,11 @@
 -- `rowlog::care::care_bit` meets its contract: past the stream nothing, else by the count of the row.
 -- Assumes nothing.
-use mathlib.Core.Path.{sym}
 use native.Mathlib.Omega.{arith}
 use lib.Pow.{pow_pos}
 use Rattle.lists.proofs.Bits.Digits.{one_shifted}
 use Rattle.lists.proofs.Bits.Masks.{row-masked}
-use Rattle.rowlog.proofs.Caring.{bit_past, bit-within}
+use Rattle.rowlog.proofs.Caring.{bit-within}
 use Rattle.rowlog.proofs.care.care_bit.Goals as goal
-
-pub returns-then-end-x : goal.returns-then-end-x
-returns-then-end-x c =
-    let a = c.args in
-    sym (bit_past a.counts.now a.least a.n a.end a.x c.if-end-x.true)
 
 pub overflow_sub-row : goal.overflow_sub-row
 overflow_sub-row c =

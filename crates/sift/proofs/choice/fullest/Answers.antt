@@ -17,12 +17,12 @@ loop-v-init c =
 
 pub offset_bounds-counts-level : goal.offset_bounds-counts-level
 offset_bounds-counts-level c =
-    let i = index_below c.args.n (take c.args.n c.args.order) c.requires.t (c.loop-v.v - 1) (omega arith) in
+    let i = index_below c.args.n (take c.args.n c.args.order) c.requires.order (c.loop-v.v - 1) (omega arith) in
     omega (arith, c.level_of-level.ensures)
 
 pub bounds-counts-level : goal.bounds-counts-level
 bounds-counts-level c =
-    let i = index_below c.args.n (take c.args.n c.args.order) c.requires.t (c.loop-v.v - 1) (omega arith) in
+    let i = index_below c.args.n (take c.args.n c.args.order) c.requires.order (c.loop-v.v - 1) (omega arith) in
     omega (arith, c.level_of-level.ensures)
 
 pub loop-v-preserved : goal.loop-v-preserved
@@ -38,12 +38,3 @@ loop-v-preserved c =
           (l.invariant.1 ∙ ap (λ (k : ℕ). leading f (keep (λ w. not (g w)) (drop k (up_to a.n)))) back)
           (c.overtake-lead.ensures ∙ ap (λ (k : ℕ). overtaken l.lead u (get_or a.counts k 0) (g u)) c.level_of-level.ensures),
     )
-
-pub returns : goal.returns
-returns c =
-    let a = c.args in
-    let l = c.loop-v in
-    let f = nodes_at a.counts (take a.n a.order) in
-    let g : ℕ → Bool = λ w. get_or a.sifted w false in
-    let none : l.v ≡ 0 = omega arith in
-    lead-all f g a.n l.lead (l.invariant.1 ∙ ap (λ (k : ℕ). leading f (keep (λ w. not (g w)) (drop k (up_to a.n)))) none)

@@ -25,15 +25,3 @@ loop-l-preserved c =
           ∙ paste_more cs (replicate most_variables 0) l.l
           (omega (arith, below, level-length a.counts.now a.p c.requires.0 c.requires.1)) below,
     )
-
-pub returns : goal.returns
-returns c =
-    let a = c.args in
-    let l = c.loop-l in
-    let cs = counts_of a.p a.counts.now in
-    let all : l.l ≡ most_variables = omega (arith, l.invariant.0, c.loop-l-test.false) in
-    l.invariant.1
-    ∙ ap (λ (k : ℕ). take k cs ++ drop k (replicate most_variables 0)) all
-    ∙ paste_all cs (replicate most_variables 0) most_variables
-    (omega (arith, level-length a.counts.now a.p c.requires.0 c.requires.1))
-    ∙ append-nil cs

@@ -12,10 +12,6 @@ use Rattle.sift.proofs.Trying.LentCounts.{level-room, level-length, level-at}
 use Rattle.sift.proofs.counts.total_of.Goals as goal
 use Rattle.sift.proofs.counts.total_of.Goals.{After-shared_slice_known-1}
 
-pub loop-l-init : goal.loop-l-init
-loop-l-init c =
-    (search rules, zero-add _)
-
 pub bounds-counts-p : goal.bounds-counts-p
 bounds-counts-p c =
     omega (

@@ -51,14 +51,6 @@ returns-then-gains-n c =
     (held (goal.at.returns-then-gains-n c).Else-not-holds_table) c.if-gains-n.true in
     record { answer = all.0; gains = all.1.0; work = all.1.1.0; reported = all.1.1.1 }
 
-pub report-requires : goal.report-requires
-report-requires c =
-    record {
-      t = to-T (long (goal.at.report-requires c).Else-not-holds_table);
-      t_2 = to-T (held (goal.at.report-requires c).Else-not-holds_table);
-      n_in_bounds = c.if-gains-n.false;
-    }
-
 pub returns : goal.returns
 returns c =
     let a = c.args in

@@ -11,6 +11,6 @@ use Rattle.fill.specs.Calls.{held_table}
 use Rattle.sift.proofs.moves.report.Given as goal
 
 abbrev pub invariant-loop-v : goal.invariant-loop-v
-invariant-loop-v l = (l.v ≤ l.state.n)
-    × ((l.gains ≡ over (gain_at (held_table l.state l.values l.care) (order_of l.state)) (l.state.n * l.v) l.initial.gains)
+invariant-loop-v l = (l.v ≤ l.fn.state.n)
+    × ((l.gains ≡ over (gain_at (held_table l.fn.state l.fn.values l.fn.care) (order_of l.fn.state)) (l.fn.state.n * l.v) l.initial.gains)
     × ((length l.gains ≡ length l.initial.gains) × (l.work ≡ l.initial.work)))

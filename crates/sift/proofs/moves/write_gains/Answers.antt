@@ -13,24 +13,6 @@ use Rattle.diagram.specs.Networks.Bound.{most_nodes}
 use Rattle.sift.specs.Inner.Counts.{counts_gain}
 use Rattle.sift.proofs.moves.write_gains.Goals as goal
 
-pub loop-p-init : goal.loop-p-init
-loop-p-init c =
-    (search rules, (refl, refl))
-
-pub total_of-requires : goal.total_of-requires
-total_of-requires c =
-    record {
-      p_lt_most_variables = (omega arith, c.requires.counts_size_in_bounds.0);
-      counts_bound = c.requires.by_index c.loop-p.p c.loop-p-test.true;
-    }
-
-pub gain-brought-requires : goal.gain-brought-requires
-gain-brought-requires c =
-    let p = c.loop-p.p in (
-      subst (λ (x : ℕ). x ≤ most_nodes) (sym c.total_of.ensures) (c.requires.by_index p c.loop-p-test.true),
-      c.requires.counts_size_in_bounds.1,
-    )
-
 pub loop-p-preserved : goal.loop-p-preserved
 loop-p-preserved c =
     let a = c.args in
@@ -42,10 +24,3 @@ loop-p-preserved c =
     ∙ ap (λ (x : ℕ). pos x -ℤ pos a.present) c.total_of.ensures in
     let e = over-next f a.row.now l.row l.p _ (omega arith) l.invariant.1.0 brought in
     (omega arith, (e, simp length-set l.invariant.1.1))
-
-pub returns : goal.returns
-returns c =
-    let a = c.args in
-    let l = c.loop-p in
-    let all : l.p ≡ a.n = omega arith in
-    l.invariant.1.0 ∙ ap (λ (k : ℕ). over (counts_gain a.present a.counts.now) k a.row.now) all

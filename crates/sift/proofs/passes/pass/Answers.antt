@@ -29,16 +29,6 @@ returns-then-not-holds_table c =
     (sym h.ensures ∙ not-true h.result c.if-not-holds_table.true-raw) in
     record { outcome = all.0; work = all.1.0; demand = all.1.1.0; never_dearer = all.1.1.1 }
 
-pub run-progress-requires : goal.run-progress-requires
-run-progress-requires c =
-    let m = c.lent_enough in
-    let h = c.holds_table in
-    let held = to-T (sym h.ensures ∙ not-false h.result c.if-not-holds_table.false-raw) in record {
-      t = to-T (sym m.ensures ∙ not-false m.result c.if-not-lent_enough.false-raw);
-      t_2 = held;
-      limit_bound = omega (arith, c.ranges.limit);
-    }
-
 pub returns : goal.returns
 returns c =
     let a = c.args in

@@ -1,54 +1,57 @@
 use mathlib.Core.Path.{◌≡◌, refl, sym, ap, ◌∙◌}
 use native.Mathlib.Omega.{arith}
+use Prim.Native.Nat.{◌<◌}
 use lib.Dec.{T}
 use lib.ListN.{length}
 use Rattle.table.specs.State.{good_heading, order_of}
 use Rattle.table.proofs.Held.{few-inputs, held-heading}
-use Rattle.fill.specs.declared.Levels.{Levels}
 use Rattle.fill.specs.Work.{zero_work}
-use Rattle.sift.proofs.Trying.CountSucceeds.{counted-work, counted-levels, enough-again, zero-still}
+use Rattle.sift.proofs.Trying.CountSucceeds.{counted-work, levels-counted, counted-counts, enough-again, zero-still}
 use Rattle.sift.proofs.Passing.PassUnderWay.{running-start, running-heading, running-counts}
-use Rattle.sift.proofs.Passing.PassUnderWay.{running-next, running-less, running-stop}
+use Rattle.sift.proofs.Passing.PassUnderWay.{running-next, running-more, running-stop}
 use Rattle.sift.proofs.passes.run.Goals as goal
-use Rattle.sift.proofs.passes.run.Goals.{After-count_levels-levels}
+use Rattle.sift.proofs.passes.run.Goals.{After-count_levels}
 
-heading : (k : After-count_levels-levels) → let t = k.args.state in T (good_heading t.n t.m (order_of t))
-heading k = held-heading k.args.state k.requires.t_2
+heading : (k : After-count_levels) → let t = k.args.state in T (good_heading t.n t.m (order_of t))
+heading k = held-heading k.args.state k.requires.held
 
 -- what the count left
-zeroed : (k : After-count_levels-levels) → k.count_levels-levels.new.work ≡ zero_work k.args.work.now
+zeroed : (k : After-count_levels) → k.count_levels.new.work ≡ zero_work k.args.work.now
 zeroed k =
     let a = k.args in
-    k.count_levels-levels.ensures.work ∙ counted-work a.state a.values.now a.care.now a.work.now k.requires.t k.requires.t_2
+    k.count_levels.ensures.work ∙ counted-work a.state a.values.now a.care.now a.work.now k.requires.enough k.requires.held
 
-pub loop-progress-init : goal.loop-progress-init
-loop-progress-init c =
+pub unwrap-levels-requires : goal.unwrap-levels-requires
+unwrap-levels-requires c =
+    let a = c.args in
+    levels-counted a.state a.values.now a.care.now a.work.now c.requires.enough c.requires.held c.count_levels.result
+    c.count_levels.ensures.levels
+
+pub loop-turns-init : goal.loop-turns-init
+loop-turns-init c =
     let a = c.args in
     let vs = a.values.now in
     let cs = a.care.now in
-    let known = ap (λ (x : Levels). x.counts) c.count_levels-levels.ensures.levels
-    ∙ counted-levels a.state vs cs a.work.now c.requires.t c.requires.t_2 in (
-      running-start a.state a.limit vs cs (heading (goal.at.loop-progress-init c).After-count_levels-levels)
-          c.count_levels-levels.result.counts known _ refl,
-      refl,
-    )
+    let known = counted-counts a.state vs cs a.work.now c.requires.enough c.requires.held c.unwrap-levels.result
+    (sym c.count_levels.ensures.levels ∙ c.unwrap-levels.ensures) in record {
+      running = running-start a.state a.limit vs cs (heading (goal.at.loop-turns-init c).After-count_levels)
+          c.unwrap-levels.result.counts known _ refl;
+      turns = refl;
+      work = refl;
+    }
 
 pub overflow_add-progress : goal.overflow_add-progress
 overflow_add-progress c =
-    omega (arith, c.loop-progress.invariant.0.limited, c.requires.limit_bound, few-inputs c.args.state c.requires.t_2)
-
-pub shape_of-work-then-limit-progress : goal.shape_of-work-then-limit-progress
-shape_of-work-then-limit-progress c =
-    ap length c.loop-progress.invariant.1 ∙ c.count_levels-levels.auto.work
+    omega (arith, c.loop-turns.invariant.running.limited, c.requires.limit, few-inputs c.args.state c.requires.held)
 
 pub returns-then-limit-progress : goal.returns-then-limit-progress
 returns-then-limit-progress c =
     let a = c.args in
-    let l = c.loop-progress in record {
+    let l = c.loop-turns in record {
       progress = running-stop a.state a.limit a.values.now a.care.now
-          (heading (goal.at.returns-then-limit-progress c).After-count_levels-levels) l.progress l.invariant.0
+          (heading (goal.at.returns-then-limit-progress c).After-count_levels) l.progress l.invariant.running
           (λ _. c.if-limit-progress.true);
-      work = l.invariant.1 ∙ zeroed (goal.at.returns-then-limit-progress c).After-count_levels-levels;
+      work = l.invariant.work ∙ zeroed (goal.at.returns-then-limit-progress c).After-count_levels;
     }
 
 pub turn-progress-requires : goal.turn-progress-requires
@@ -56,52 +59,40 @@ turn-progress-requires c =
     let a = c.args in
     let vs = a.values.now in
     let cs = a.care.now in
-    let l = c.loop-progress in record {
-      t = enough-again vs cs a.work.now l.work c.requires.t (ap length l.invariant.1 ∙ c.count_levels-levels.auto.work);
-      t_2 = running-heading a.state a.limit vs cs (heading (goal.at.turn-progress-requires c).After-count_levels-levels)
-          l.progress l.invariant.0;
-      turns_lt_n = (c.loop-progress-test.true, omega (arith, l.invariant.0.limited, c.requires.limit_bound));
-      counts_value = running-counts a.state a.limit vs cs
-          (heading (goal.at.turn-progress-requires c).After-count_levels-levels) l.progress l.invariant.0;
+    let l = c.loop-turns in record {
+      enough = enough-again vs cs a.work.now l.work c.requires.enough (ap length l.invariant.work ∙ c.count_levels.auto.work);
+      heading = running-heading a.state a.limit vs cs (heading (goal.at.turn-progress-requires c).After-count_levels)
+          l.progress l.invariant.running;
+      some_left = (omega (arith, c.loop-turns-test.true, l.invariant.turns), omega (arith, l.invariant.running.limited, c.requires.limit));
+      counted = running-counts a.state a.limit vs cs
+          (heading (goal.at.turn-progress-requires c).After-count_levels) l.progress l.invariant.running;
     }
 
-pub loop-progress-smaller : goal.loop-progress-smaller
-loop-progress-smaller c =
+pub loop-turns-preserved : goal.loop-turns-preserved
+loop-turns-preserved c =
     let a = c.args in
-    let l = c.loop-progress in
+    let l = c.loop-turns in
     let r = c.turn-progress in
-    let some = c.loop-progress-test.true in
-    let room = c.if-limit-progress.false in
-    let e = running-less a.state a.limit a.values.now a.care.now
-    (heading (goal.at.loop-progress-smaller c).After-count_levels-levels) l.progress l.invariant.0 some room
-    r.result r.ensures.progress in
-    omega (arith, e, some)
-
-pub loop-progress-preserved : goal.loop-progress-preserved
-loop-progress-preserved c =
-    let a = c.args in
-    let l = c.loop-progress in
-    let r = c.turn-progress in
-    let some = c.loop-progress-test.true in
-    let room = c.if-limit-progress.false in (
-      running-next a.state a.limit a.values.now a.care.now
-          (heading (goal.at.loop-progress-preserved c).After-count_levels-levels) l.progress l.invariant.0 some room
-          r.result r.ensures.progress,
-      zero-still a.work.now l.work r.new.work
-          (l.invariant.1 ∙ zeroed (goal.at.loop-progress-preserved c).After-count_levels-levels) r.ensures.work
-          ∙ sym (zeroed (goal.at.loop-progress-preserved c).After-count_levels-levels),
-    )
-
-pub shape_of-work : goal.shape_of-work
-shape_of-work c =
-    ap length c.loop-progress.invariant.1 ∙ c.count_levels-levels.auto.work
+    let h = heading (goal.at.loop-turns-preserved c).After-count_levels in
+    let some : l.progress.turns < a.state.n = omega (arith, c.loop-turns-test.true, l.invariant.turns) in
+    let room = c.if-limit-progress.false in record {
+      running = running-next a.state a.limit a.values.now a.care.now h l.progress l.invariant.running some room r.result r.ensures.progress;
+      turns = omega (
+        arith,
+        l.invariant.turns,
+        running-more a.state a.limit a.values.now a.care.now h l.progress l.invariant.running some room r.result r.ensures.progress,
+      );
+      work = zero-still a.work.now l.work r.new.work
+          (l.invariant.work ∙ zeroed (goal.at.loop-turns-preserved c).After-count_levels) r.ensures.work
+          ∙ sym (zeroed (goal.at.loop-turns-preserved c).After-count_levels);
+    }
 
 pub returns : goal.returns
 returns c =
     let a = c.args in
-    let l = c.loop-progress in record {
+    let l = c.loop-turns in record {
       progress = running-stop a.state a.limit a.values.now a.care.now
-          (heading (goal.at.returns c).After-count_levels-levels) l.progress l.invariant.0
-          (λ h. absurd (omega (arith, h, c.loop-progress-test.false)));
-      work = l.invariant.1 ∙ zeroed (goal.at.returns c).After-count_levels-levels;
+          (heading (goal.at.returns c).After-count_levels) l.progress l.invariant.running
+          (λ h. absurd (omega (arith, h, c.loop-turns-test.false, l.invariant.turns)));
+      work = l.invariant.work ∙ zeroed (goal.at.returns c).After-count_levels;
     }

@@ -1,6 +1,6 @@
 -- `sift::single::sift` meets its contract. Each refusal by its test, and the outcome by the best level found.
 -- Assumes nothing.
-use mathlib.Core.Path.{sym, ap, ◌∙◌}
+use mathlib.Core.Path.{sym, ◌∙◌}
 use mathlib.Core.Bool.{not}
 use Prim.Native.Nat.{◌<◌}
 use borrow.Author.Tests.{not-true, not-false}
@@ -8,14 +8,13 @@ use lib.Dec.{T}
 use Rattle.lists.proofs.Bools.{of_T, to-T}
 use Rattle.table.specs.State.{order_of, stage_of, is_nothing}
 use Rattle.table.proofs.Held.{held-heading, few-inputs, ordered}
-use Rattle.fill.specs.declared.Levels.{Levels}
 use Rattle.fill.specs.Calls.{held_table, enough}
 use Rattle.sift.proofs.Trying.BestLevel.{best-below}
-use Rattle.sift.proofs.Trying.CountSucceeds.{counted-work, counted-levels, enough-again, zero-still}
+use Rattle.sift.proofs.Trying.CountSucceeds.{counted-work, levels-counted, counted-counts, enough-again, zero-still}
 use Rattle.sift.proofs.Trying.SiftedCounts.{sifted-best}
 use Rattle.sift.proofs.Sifting.SiftOutcome.{sift-short, sift-no-table, sift-no-variable, sift-done}
 use Rattle.sift.proofs.single.sift.Goals as goal
-use Rattle.sift.proofs.single.sift.Goals.{After-count_levels-levels}
+use Rattle.sift.proofs.single.sift.Goals.{After-count_levels}
 
 pub returns-then-not-lent_enough : goal.returns-then-not-lent_enough
 returns-then-not-lent_enough c =
@@ -51,31 +50,33 @@ returns-then-n-variable c =
     (sym h.ensures ∙ not-false h.result c.if-not-holds_table.false-raw) c.if-n-variable.true in
     record { outcome = all.0; work = all.1.0; demand = all.1.1.0; never_dearer = all.1.1.1 }
 
-long : (k : After-count_levels-levels) → let a = k.args in T (enough a.values.now a.care.now a.work.now)
+long : (k : After-count_levels) → let a = k.args in T (enough a.values.now a.care.now a.work.now)
 long k =
     let m = k.lent_enough in
     to-T (sym m.ensures ∙ not-false m.result k.if-not-lent_enough.false-raw)
 
-held : (k : After-count_levels-levels) → T (not (is_nothing (stage_of k.args.state)))
+held : (k : After-count_levels) → T (not (is_nothing (stage_of k.args.state)))
 held k =
     let h = k.holds_table in
     to-T (sym h.ensures ∙ not-false h.result k.if-not-holds_table.false-raw)
 
-below : (k : After-count_levels-levels) → k.args.variable < k.args.state.n
+below : (k : After-count_levels) → k.args.variable < k.args.state.n
 below k = k.if-n-variable.false
 
-pub sift_one-found-requires : goal.sift_one-found-requires
-sift_one-found-requires c =
+pub unwrap-levels-requires : goal.unwrap-levels-requires
+unwrap-levels-requires c =
     let a = c.args in
-    let vs = a.values.now in
-    let cs = a.care.now in
-    let r = c.count_levels-levels in record {
-      t = enough-again vs cs a.work.now r.new.work (long (goal.at.sift_one-found-requires c).After-count_levels-levels) r.auto.work;
-      t_2 = held-heading a.state (held (goal.at.sift_one-found-requires c).After-count_levels-levels);
-      v_lt_n = below (goal.at.sift_one-found-requires c).After-count_levels-levels;
-      known_value = ap (λ (x : Levels). x.counts) r.ensures.levels
-          ∙ counted-levels a.state vs cs a.work.now (long (goal.at.sift_one-found-requires c).After-count_levels-levels)
-          (held (goal.at.sift_one-found-requires c).After-count_levels-levels);
+    let k = (goal.at.unwrap-levels-requires c).After-count_levels in
+    levels-counted a.state a.values.now a.care.now a.work.now (long k) (held k) c.count_levels.result c.count_levels.ensures.levels
+
+pub invariant_of-table : goal.invariant_of-table
+invariant_of-table c =
+    let a = c.args in
+    let k = (goal.at.invariant_of-table c).After-count_levels in
+    record {
+      heading = held-heading a.state (held k);
+      counted = counted-counts a.state a.values.now a.care.now a.work.now (long k) (held k) c.unwrap-levels.result
+          (sym c.count_levels.ensures.levels ∙ c.unwrap-levels.ensures);
     }
 
 pub moved_to-after-requires : goal.moved_to-after-requires
@@ -83,13 +84,13 @@ moved_to-after-requires c =
     let a = c.args in
     let t = held_table a.state a.values.now a.care.now in
     let r = c.sift_one-found in record {
-      n_le_most_variables = few-inputs a.state (held (goal.at.moved_to-after-requires c).After-count_levels-levels);
-      t = ordered a.state (held (goal.at.moved_to-after-requires c).After-count_levels-levels);
-      v_lt_n = (
-        below (goal.at.moved_to-after-requires c).After-count_levels-levels,
+      few = few-inputs a.state (held (goal.at.moved_to-after-requires c).After-count_levels);
+      order = ordered a.state (held (goal.at.moved_to-after-requires c).After-count_levels);
+      levels = (
+        below (goal.at.moved_to-after-requires c).After-count_levels,
         best-below t a.variable (order_of a.state) r.result.best
             (sifted-best t a.variable (order_of a.state) r.result r.ensures.sifted)
-            (below (goal.at.moved_to-after-requires c).After-count_levels-levels),
+            (below (goal.at.moved_to-after-requires c).After-count_levels),
       );
     }
 
@@ -100,13 +101,13 @@ returns c =
     let cs = a.care.now in
     let r = c.sift_one-found in
     let o = c.moved_to-after in
-    let all = sift-done a.state a.variable vs cs a.work.now (of_T (long (goal.at.returns c).After-count_levels-levels))
-    (of_T (held (goal.at.returns c).After-count_levels-levels)) (below (goal.at.returns c).After-count_levels-levels)
+    let all = sift-done a.state a.variable vs cs a.work.now (of_T (long (goal.at.returns c).After-count_levels))
+    (of_T (held (goal.at.returns c).After-count_levels)) (below (goal.at.returns c).After-count_levels)
     r.result.best
     (sifted-best (held_table a.state vs cs) a.variable (order_of a.state) r.result r.ensures.sifted) o.result o.ensures
     c.reorder-left.result c.reorder-left.ensures r.new.work
-    (zero-still a.work.now c.count_levels-levels.new.work r.new.work
-    (c.count_levels-levels.ensures.work
-    ∙ counted-work a.state vs cs a.work.now (long (goal.at.returns c).After-count_levels-levels)
-    (held (goal.at.returns c).After-count_levels-levels)) r.ensures.work) in record
+    (zero-still a.work.now c.count_levels.new.work r.new.work
+    (c.count_levels.ensures.work
+    ∙ counted-work a.state vs cs a.work.now (long (goal.at.returns c).After-count_levels)
+    (held (goal.at.returns c).After-count_levels)) r.ensures.work) in record
     { outcome = all.0; work = all.1.0; demand = all.1.1.0; never_dearer = all.1.1.1 }

@@ -9,4 +9,4 @@ use Rattle.sift.proofs.Trying.BestLevel.{after_trials}
 use Rattle.sift.proofs.trials.best_level.Given as goal
 
 abbrev pub invariant-loop-p : goal.invariant-loop-p
-invariant-loop-p l = (l.p ≤ l.fn.state.n) × (l.best ≡ after_trials (held_table l.fn.state l.values l.care) l.v (order_of l.fn.state) l.p)
+invariant-loop-p l = (l.p ≤ l.fn.table.state.n) × (l.best ≡ after_trials (held_table l.fn.table.state l.table.values.now l.table.care.now) l.v (order_of l.fn.table.state) l.p)

@@ -12,21 +12,20 @@ use Rattle.sift.proofs.trials.sift_one.Goals as goal
 pub best_level-best-requires : goal.best_level-best-requires
 best_level-best-requires c =
     record {
-      t = c.requires.t;
-      t_2 = c.requires.t_2;
-      v_lt_n = (c.requires.v_lt_n, omega (arith, counts-size));
-      known_value = c.requires.known_value;
+      enough = c.requires.enough;
+      variable = c.requires.variable;
+      room = omega (arith, counts-size);
     }
 
 pub counts_of-left-requires : goal.counts_of-left-requires
 counts_of-left-requires c =
     let a = c.args in
-    let t = a.state in (
+    let t = a.table.now.state in (
       omega (
         arith,
-        best-below (held_table t a.values.now a.care.now) a.v (order_of t) c.best_level-best.result c.best_level-best.ensures.best
-            c.requires.v_lt_n,
-        heading-inputs t.n t.m (order_of t) c.requires.t_2,
+        best-below (held_table t a.table.now.values.now a.table.now.care.now) a.v (order_of t) c.best_level-best.result c.best_level-best.ensures.best
+            c.requires.variable,
+        heading-inputs t.n t.m (order_of t) c.args.table.now.heading,
       ),
       omega (arith, counts-size, c.best_level-best.auto.counts),
     )
@@ -35,7 +34,7 @@ pub returns : goal.returns
 returns c =
     let a = c.args in
     let r = c.best_level-best in record {
-      sifted = sifted-made (held_table a.state a.values.now a.care.now) a.v (order_of a.state) c.requires.v_lt_n
+      sifted = sifted-made (held_table a.table.now.state a.table.now.values.now a.table.now.care.now) a.v (order_of a.table.now.state) c.requires.variable
           r.result r.ensures.best r.new.counts r.ensures.counts c.counts_of-left.result c.counts_of-left.ensures;
       work = r.ensures.work;
     }

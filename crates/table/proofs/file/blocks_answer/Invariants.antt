@@ -6,8 +6,4 @@ use Rattle.table.specs.File.{blocks_answer}
 use Rattle.table.proofs.file.blocks_answer.Given as goal
 
 abbrev pub invariant-loop-k : goal.invariant-loop-k
-invariant-loop-k l = (1 ≤ l.k) × (l.k ≤ suc (2 * l.blocks))
-    × (blocks_answer l.bits l.blocks l.file 1 (2 * l.blocks) ≡ blocks_answer l.bits l.blocks l.file l.k (suc (2 * l.blocks) - l.k))
-
-abbrev pub decreases-loop-k : goal.decreases-loop-k
-decreases-loop-k l = suc (2 * l.blocks) - l.k
+invariant-loop-k l = (1 ≤ l.k) × (blocks_answer l.bits l.blocks l.file 1 (2 * l.blocks) ≡ blocks_answer l.bits l.blocks l.file l.k (suc (2 * l.blocks) - l.k))

@@ -1,11 +1,9 @@
 -- `table::load::write_plane` meets its contract. The loop's invariant: the plane is written over as far as byte i.
 -- Assumes nothing.
 use mathlib.Core.Path.{◌≡◌}
-use Prim.Native.Nat.{◌-◌, ◌≤◌}
 use Rattle.lists.specs.Written.{over}
 use Rattle.table.specs.File.{stream_byte}
-use Rattle.table.specs.Calls.{plane_size}
 use Rattle.table.proofs.load.write_plane.Given as goal
 
 abbrev pub invariant-loop-i : goal.invariant-loop-i
-invariant-loop-i l = (l.i ≤ plane_size) × (l.plane ≡ over (stream_byte l.file l.first l.blocks) l.i l.initial.plane)
+invariant-loop-i l = l.x-items ≡ over (stream_byte l.file l.first l.blocks) l.i l.initial.x-items

@@ -1,7 +1,8 @@
 -- `yavdocsil::load::yav_load` meets its contract: 10 for a short state, else what `load` answers and leaves.
 -- Assumes nothing.
-use mathlib.Core.Path.{sym, ap, ◌∙◌, subst}
-use Rattle.table.specs.declared.Outcome.{Outcome}
+use mathlib.Core.Path.{refl, sym, ap, ◌∙◌, subst}
+use Rattle.table.specs.Answer.{Outcome, answer_of}
+use Rattle.yavdocsil.specs.Words.{state_from}
 use Rattle.yavdocsil.specs.Called.{words_after}
 use Rattle.yavdocsil.proofs.SmallValues.{Small, load-small}
 use Rattle.yavdocsil.proofs.Calling.{short-answer, short-leaves, called-answer, called-leaves}
@@ -22,24 +23,22 @@ returns-then-words-lt-WORDS c =
 pub settle-requires : goal.settle-requires
 settle-requires c =
     let k = c.load-outcome in
-    let s = c.read_state in
     let i = c.if-words-lt-WORDS in
     let a = c.args in (
       i.false,
-      subst (λ (o : Outcome). Small o.answer) (sym k.ensures.outcome)
-          (load-small s.result a.file.now a.values.now a.care.now),
+      subst (λ (o : Outcome). Small (answer_of o)) (sym k.ensures.outcome)
+          (load-small a.file.now a.values.now a.care.now),
     )
 
 pub returns : goal.returns
 returns c =
     let r = c.settle in
     let k = c.load-outcome in
-    let s = c.read_state in
     let i = c.if-words-lt-WORDS in
     let a = c.args in
-    let leaves-as = called-leaves a.words.now i.false s.result s.ensures in record {
-      answer = called-answer a.words.now i.false s.result s.ensures _ r.result k.result.answer r.ensures.answer
-          (ap (λ (o : Outcome). o.answer) k.ensures.outcome);
+    let leaves-as = called-leaves a.words.now i.false (state_from a.words.now) refl in record {
+      answer = called-answer a.words.now i.false (state_from a.words.now) refl _ r.result (answer_of k.result) r.ensures.answer
+          (ap answer_of k.ensures.outcome);
       words = leaves-as _ _ _ (r.ensures.words ∙ ap (λ (o : Outcome). words_after o a.words.now) k.ensures.outcome);
       values = leaves-as _ _ _ k.ensures.values;
       care = leaves-as _ _ _ k.ensures.care;

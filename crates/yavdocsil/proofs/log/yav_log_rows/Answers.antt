@@ -1,7 +1,7 @@
 -- `yavdocsil::log::yav_log_rows` meets its contract: 10 for a short state, else what `log_rows` answers and leaves.
 -- Assumes nothing.
 use mathlib.Core.Path.{sym, ap, ◌∙◌, subst}
-use Rattle.table.specs.declared.Outcome.{Outcome}
+use Rattle.table.specs.Answer.{Outcome, answer_of}
 use Rattle.yavdocsil.specs.Called.{words_after}
 use Rattle.yavdocsil.proofs.SmallValues.{Small, log-small}
 use Rattle.yavdocsil.proofs.Calling.{short-answer, short-leaves, called-answer, called-leaves}
@@ -26,7 +26,7 @@ settle-requires c =
     let i = c.if-words-lt-WORDS in
     let a = c.args in (
       i.false,
-      subst (λ (o : Outcome). Small o.answer) (sym k.ensures.outcome)
+      subst (λ (o : Outcome). Small (answer_of o)) (sym k.ensures.outcome)
           (log-small s.result a.rows.now a.counts.now a.care.now),
     )
 
@@ -38,8 +38,8 @@ returns c =
     let i = c.if-words-lt-WORDS in
     let a = c.args in
     let leaves-as = called-leaves a.words.now i.false s.result s.ensures in record {
-      answer = called-answer a.words.now i.false s.result s.ensures _ r.result k.result.answer r.ensures.answer
-          (ap (λ (o : Outcome). o.answer) k.ensures.outcome);
+      answer = called-answer a.words.now i.false s.result s.ensures _ r.result (answer_of k.result) r.ensures.answer
+          (ap answer_of k.ensures.outcome);
       words = leaves-as _ _ _ (r.ensures.words ∙ ap (λ (o : Outcome). words_after o a.words.now) k.ensures.outcome);
       counts = leaves-as _ _ _ k.ensures.counts;
       care = leaves-as _ _ _ k.ensures.care;

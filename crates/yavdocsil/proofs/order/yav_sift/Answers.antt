@@ -1,7 +1,7 @@
 -- `yavdocsil::order::yav_sift` meets its contract: what `sift` owes of its outcome is carried to the answer and the words.
 -- Assumes nothing.
-use mathlib.Core.Path.{refl, sym, ap, ◌∙◌, subst}
-use Rattle.table.specs.declared.Outcome.{Outcome}
+use mathlib.Core.Path.{sym, ap, ◌∙◌, subst}
+use Rattle.table.specs.Answer.{Outcome, answer_of}
 use Rattle.sift.specs.Calls.{SiftDemand, SiftNeverDearer}
 use Rattle.yavdocsil.specs.Words.{state_from}
 use Rattle.yavdocsil.specs.Called.{words_after, success}
@@ -29,7 +29,7 @@ settle-requires c =
     let i = c.if-words-lt-WORDS in
     let a = c.args in (
       i.false,
-      subst (λ (o : Outcome). Small o.answer) (sym k.ensures.outcome)
+      subst (λ (o : Outcome). Small (answer_of o)) (sym k.ensures.outcome)
           (sift-small s.result a.values.now a.care.now a.work.now a.variable),
     )
 
@@ -41,12 +41,12 @@ returns c =
     let i = c.if-words-lt-WORDS in
     let a = c.args in
     let leaves-as = called-leaves a.words.now i.false s.result s.ensures in record {
-      answer = called-answer a.words.now i.false s.result s.ensures _ r.result k.result.answer r.ensures.answer
-          (ap (λ (o : Outcome). o.answer) k.ensures.outcome);
+      answer = called-answer a.words.now i.false s.result s.ensures _ r.result (answer_of k.result) r.ensures.answer
+          (ap answer_of k.ensures.outcome);
       words = leaves-as _ _ _ (r.ensures.words ∙ ap (λ (o : Outcome). words_after o a.words.now) k.ensures.outcome);
       work = leaves-as _ _ _ k.ensures.work;
-      demand = λ h. carried s.result (state_from a.words.now) s.ensures k.result (success r.result _) (r.ensures.success h) refl
+      demand = λ h. carried s.result (state_from a.words.now) s.ensures k.result (success r.result _) (r.ensures.success h)
           (λ t o. SiftDemand a.variable a.values.now a.care.now o) k.ensures.demand;
-      never_dearer = λ h. carried s.result (state_from a.words.now) s.ensures k.result (success r.result _) (r.ensures.success h) refl
+      never_dearer = λ h. carried s.result (state_from a.words.now) s.ensures k.result (success r.result _) (r.ensures.success h)
           (λ t o. SiftNeverDearer t a.values.now a.care.now o) k.ensures.never_dearer;
     }

@@ -1,9 +1,9 @@
 -- `yavdocsil::swap::yav_swap_cells` meets its contract: what `swap_cells` owes of its outcome is carried to the answer and the words.
 -- Assumes nothing.
-use mathlib.Core.Path.{refl, sym, ap, ◌∙◌, subst}
+use mathlib.Core.Path.{sym, ap, ◌∙◌, subst}
 use mathlib.Core.Bool.{true}
 use Rattle.diagram.specs.Demands.{NoneFits}
-use Rattle.table.specs.declared.Outcome.{Outcome}
+use Rattle.table.specs.Answer.{Outcome, answer_of}
 use Rattle.lent.specs.Lent.{lent_diagram}
 use Rattle.network.specs.Build.{capacity}
 use Rattle.swapping.specs.Swap.{cell_table, exchanged_order, reaches_swap, Swapped}
@@ -36,7 +36,7 @@ settle-requires c =
     let i = c.if-words-lt-WORDS in
     let a = c.args in (
       i.false,
-      subst (λ (o : Outcome). Small o.answer) (sym k.ensures.outcome)
+      subst (λ (o : Outcome). Small (answer_of o)) (sym k.ensures.outcome)
           (swap-cells-small s.result a.level a.work.now a.roots.now a.cells.now),
     )
 
@@ -52,21 +52,21 @@ returns c =
     let cs = a.cells.now in
     let roots = k.new.roots in
     let cells = k.new.cells in
-    let small : Small k.result.answer =
-    subst (λ (o : Outcome). Small o.answer) (sym k.ensures.outcome)
+    let small : Small (answer_of k.result) =
+    subst (λ (o : Outcome). Small (answer_of o)) (sym k.ensures.outcome)
     (swap-cells-small s.result a.level a.work.now rs cs) in
     let fit =
-    carried-number s.result (state_from a.words.now) s.ensures k.result.answer r.result 23 r.ensures.answer small
+    carried-number s.result (state_from a.words.now) s.ensures (answer_of k.result) r.result 23 r.ensures.answer small
     (λ t. reaches_swap t a.level a.work.now rs cs)
     (λ t. NoneFits true (cell_table t rs cs) (exchanged_order t a.level) (capacity cs)) in record {
-      answer = called-answer a.words.now i.false s.result s.ensures _ r.result k.result.answer r.ensures.answer
-          (ap (λ (o : Outcome). o.answer) k.ensures.outcome);
+      answer = called-answer a.words.now i.false s.result s.ensures _ r.result (answer_of k.result) r.ensures.answer
+          (ap answer_of k.ensures.outcome);
       words = leaves-as _ _ _ (r.ensures.words ∙ ap (λ (o : Outcome). words_after o a.words.now) k.ensures.outcome);
       work = leaves-as _ _ _ k.ensures.work;
       roots = leaves-as _ _ _ k.ensures.roots;
       cells = leaves-as _ _ _ k.ensures.cells;
       swapped = λ h. carried s.result (state_from a.words.now) s.ensures k.result (success r.result _)
-          (r.ensures.success h) refl
+          (r.ensures.success h)
           (λ t o. Swapped t a.level rs cs o (lent_diagram o.state.count t.m cells roots) (capacity cells))
           k.ensures.swapped;
       fit = λ _. fit k.ensures.fit;

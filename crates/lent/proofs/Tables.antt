@@ -1,0 +1,4 @@
+pub mod Gathered
+pub mod Tabulated
+pub mod Tabulating
+pub mod WholePlane
