@@ -12,7 +12,7 @@ pub(crate) const WORDS: usize = 40;
 
 const ORDER: usize = 8;
 
-// The stage that a word says.
+// The stage that a word says. By hand, and no `From`: the words are the interface's for C, and `Stage` is another crate's.
 fn stage_from(word: u64) -> Stage
     ensures { result ≡ stage_from word }
 {
