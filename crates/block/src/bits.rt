@@ -35,5 +35,8 @@ pub fn word_at(bytes: &[u8], at: usize) -> u64
         return 0;
     }
     let rest = &bytes[at..];
+    if let Some(word) = rest.first_chunk() {
+        return u64::from_le_bytes(*word);
+    }
     u64::from_le_bytes(array::from_fn(|k| byte_at(rest, k)))
 }

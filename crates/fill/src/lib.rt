@@ -65,10 +65,11 @@ pub fn fill_table(
     if work.len() < WORK {
         return Err(Refusal::ShortBuffer);
     }
-    if !state.holds_table() {
-        return Err(Refusal::NoTable);
+    if state.holds_table() {
+        Ok(fill_held(state, values, care, work))
+    } else {
+        Err(Refusal::NoTable)
     }
-    Ok(fill_held(state, values, care, work))
 }
 
 // Counts the cells of each of n levels from links in the work buffer, whoever put them there: those of m outputs, then those of the levels,

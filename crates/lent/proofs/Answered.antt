@@ -1,9 +1,9 @@
 -- What the tests that were passed say of the state, the lent cells and the roots, and what evaluation then answers.
 -- Assumes nothing.
 use Rattle.std.specs.Prelude.{Ok}
-use mathlib.Core.Path.{◌≡◌, refl, ap, ◌∙◌}
+use mathlib.Core.Path.{◌≡◌, refl, sym, ap, ◌∙◌}
 use mathlib.Core.Bool.{Bool, true, false, not, cond, and-false}
-use mathlib.Core.List.{List}
+use mathlib.Core.List.{List, []}
 use Prim.Native.Nat.{ℕ, zero, suc, ◌*◌, ◌/◌, ◌%◌, ◌^◌, ◌≤◌, ◌<◌}
 use native.Mathlib.Nat.{min-eq_right, le_of_lt}
 use native.Mathlib.Omega.{arith}
@@ -11,12 +11,12 @@ use borrow.Author.Tests.{lt-ltb, le-leb, lt-leb, ne_eqb}
 use lib.Dec.{T, eqb, ltb, leb, leb→le}
 use lib.ListN.{length, get_or, take, length-take}
 use lib.Seq.{take-length, length-take-le}
-use Rattle.lists.specs.Bits.{flip}
+use Rattle.lists.specs.Bits.{flip, packed}
 use Rattle.lists.proofs.Bools.{to-T, and_l, and_r}
 use lib.Pow.{pow_mono}
 use Rattle.lists.proofs.Bits.Digits.{one_shifted}
 use Rattle.lists.proofs.Bits.Packed.{packed_lt}
-use Rattle.diagram.specs.Networks.Diagram.{Node, inverts, well_formed, gives}
+use Rattle.diagram.specs.Networks.Diagram.{Node, Diagram, inverts, well_formed, gives}
 use Rattle.diagram.specs.Networks.Bound.{most_variables, most_outputs}
 use Rattle.diagram.specs.Orders.Order.{row_under}
 use Rattle.diagram.proofs.Networks.Evaluate.{formed-roots, formed-nodes}
@@ -25,7 +25,7 @@ use Rattle.table.specs.declared.Stage.TheVariants.{Nothing, Table as AtTable, Ne
 use Rattle.table.specs.declared.State.{State}
 use Rattle.table.specs.State.{order_of, stage_of, is_nothing, is_network}
 use Rattle.table.proofs.Held.{few-inputs, few-outputs, ordered}
-use Rattle.lent.specs.Lent.{cells_by, lent_diagram, roots_size}
+use Rattle.lent.specs.Lent.{cells_by, lent_cells, lent_diagram, roots_size}
 use Rattle.lent.specs.Inner.Cells.{Followable, Rooted}
 use Rattle.lent.specs.Inner.Tabulate.{Evaluable}
 use Rattle.lent.specs.Evaluate.{good_cells, row_outputs, evaluate_answer}
@@ -42,6 +42,18 @@ unfolding gives
 gives-roots cs rs rs' a zero r = refl
 gives-roots cs rs rs' a (suc k) r =
     ap (λ (b : Bool). cond (ltb r 2) (eqb r 1) (flip (inverts true r) b)) (gives-roots cs rs rs' a k _)
+
+-- what a row gives at root j, where a p is its bit at level p
+abbrev pub given_at : Diagram → (ℕ → Bool) → ℕ → List ℕ → ℕ → Bool
+given_at D a n roots j = gives true D a n (get_or roots j 0)
+
+-- the outputs of the lent diagram are those of its cells
+pub outputs-row : (s : State) (row : ℕ) (roots cells : List ℕ)
+    → packed s.m (given_at (lent_cells s.count cells) (row_under s.n (order_of s) row) s.n roots) ≡ row_outputs s row roots cells
+unfolding row_outputs lent_diagram cells_by
+outputs-row s row roots cells =
+    ap (packed s.m)
+    (λ i j. gives-roots (lent_cells s.count cells).nodes [] (take s.m roots) (row_under s.n (order_of s) row) s.n (get_or roots j 0) i)
 
 -- each output is a bit, so they fit 16 bits
 pub outputs-small : (s : State) (row : ℕ) (roots cells : List ℕ) → s.m ≤ most_outputs → row_outputs s row roots cells < 65536
@@ -123,9 +135,11 @@ module _ (s : State) (roots cells : List ℕ) (long : most_outputs ≤ length ro
   pub evaluable : Evaluable s roots cells
   evaluable = record { followable = followable; rooted = rooted }
 
--- evaluating one row
+-- evaluating one row, by what the row gives at each root along the cells
 pub answer-done : (s : State) (row : ℕ) (roots cells : List ℕ) → most_outputs ≤ length roots → is_network (stage_of s) ≡ true
-    → row < 2 ^ s.n → good_cells s roots cells ≡ true → evaluate_answer s row roots cells ≡ Ok (row_outputs s row roots cells)
+    → row < 2 ^ s.n → good_cells s roots cells ≡ true
+    → (x : ℕ) → x ≡ packed s.m (given_at (lent_cells s.count cells) (row_under s.n (order_of s) row) s.n roots)
+    → evaluate_answer s row roots cells ≡ Ok x
 unfolding evaluate_answer roots_size
-answer-done s row roots cells long held known good =
-    rw (le-leb most_outputs (length roots) long, held, lt-ltb row (2 ^ s.n) known, good)
+answer-done s row roots cells long held known good x d =
+    rw (le-leb most_outputs (length roots) long, held, lt-ltb row (2 ^ s.n) known, good) (ap Ok (sym (d ∙ outputs-row s row roots cells)))

@@ -20,7 +20,7 @@ use Rattle.lent.specs.Inner.Cells.{level_bit}
 use Rattle.lent.specs.Inner.Tabulate.{Evaluable}
 use Rattle.lent.specs.Lent.{cells_by, lent_cells, lent_diagram}
 use Rattle.lent.specs.Evaluate.{row_outputs}
-use Rattle.lent.proofs.Answered.{gives-roots}
+use Rattle.lent.proofs.Answered.{given_at, gives-roots}
 use Rattle.lent.proofs.Following.{packed-gives}
 
 -- each of the first m roots is the diagram's own
@@ -29,11 +29,7 @@ pub root-own : (D : Diagram) (m : ℕ) (roots : List ℕ) → m ≤ length roots
 root-own D m roots fit t j h r e =
     rw (e, ← get_or-take m roots j 0 h) (all-at (refers true D) (take m roots) t j 0 (omega (arith, length-take-le m roots fit)))
 
--- what a row gives at root j, where a p is its bit at level p
-abbrev pub given_at : Diagram → (ℕ → Bool) → ℕ → List ℕ → ℕ → Bool
-given_at D a n roots j = gives true D a n (get_or roots j 0)
-
--- it was found at the root's reference
+-- what a row gives at a root was found at the root's reference
 pub found_at : (D : Diagram) (a : ℕ → Bool) (n : ℕ) (roots : List ℕ) (j r : ℕ) → r ≡ get_or roots j 0 → (b : Bool) → b ≡ gives true D a n r
     → given_at D a n roots j ≡ b
 found_at D a n roots j r e b q = rw (← e) (sym q)

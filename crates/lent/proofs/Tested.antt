@@ -1,8 +1,8 @@
 -- The tests of number 24 on cells and roots, each by what the numbers at hand say: `number x` is number x of the cells, and `root j` is
 -- root j, wherever the code reads them (lent slices here, a network file's blocks in crate network_file).
 -- Assumes nothing.
-use mathlib.Core.Path.{◌≡◌, refl, sym, ap, ◌∙◌}
-use mathlib.Core.Bool.{Bool, true, false, ◌&&◌, and-false}
+use mathlib.Core.Path.{◌≡◌, sym, ap, ◌∙◌}
+use mathlib.Core.Bool.{Bool, true, false, ◌&&◌}
 use mathlib.Core.List.{List, map}
 use Prim.Native.Nat.{ℕ, ◌+◌, ◌*◌, ◌-◌, ◌/◌, ◌≤◌, ◌<◌}
 use native.Mathlib.Omega.{arith}
@@ -12,11 +12,10 @@ use lib.Seq.{take-length}
 use lib.ListN.{length}
 use Rattle.lists.specs.Lists.{all, up_to}
 use Rattle.lists.proofs.Lists.Membership.{all-mapped}
-use Rattle.lists.proofs.Numbers.Compared.{all-up_to-fails, all-up_to-more}
-use Rattle.lists.proofs.Numbers.UpTo.{length-map-up_to}
+use Rattle.lists.proofs.Numbers.UpTo.{length-map-up_to, first-elements}
 use Rattle.diagram.specs.Networks.Diagram.{later, refers, node_at, node_good, well_formed}
-use Rattle.lent.specs.Lent.{node_by, diagram_by, cells_by, lent_cells, lent_diagram}
-use Rattle.lent.proofs.Nodes.{cells-length, cell_at, all-nodes}
+use Rattle.lent.specs.Lent.{node_by, diagram_by, number_in, cells_by, lent_cells}
+use Rattle.lent.proofs.Nodes.{cells-length, cell_at}
 
 -- cell i, from 0, and root j, by their tests
 
@@ -81,8 +80,9 @@ module _ (count : ℕ) (number : ℕ → ℕ) where
           ≡ all (node_good true n (cells_by count number)) (cells_by count number).nodes
       formed-rest n e = both-tests n ∙ rw e
 
--- and so of lent cells with as many roots as outputs
-pub lent-tests : (count : ℕ) (cells roots : List ℕ) (n : ℕ) → well_formed true n (length roots) (lent_diagram count (length roots) cells roots)
-    ≡ all (refers true (lent_cells count cells)) roots && all (node_good true n (lent_cells count cells)) (lent_cells count cells).nodes
-unfolding well_formed lent_diagram cells_by
-lent-tests count cells roots n = rw (take-length roots, eq-eqb (length roots) (length roots) refl)
+-- lent roots are tested one by one as the numbers that they are
+pub roots-tested : (count : ℕ) (cells roots : List ℕ) → all (refers true (lent_cells count cells)) roots
+    ≡ all (own_root count (number_in cells) (number_in roots)) (up_to (length roots))
+roots-tested count cells roots =
+    ap (all (refers true (lent_cells count cells))) (sym (take-length roots) ∙ first-elements (length roots) roots (omega arith))
+    ∙ all-mapped (refers true (lent_cells count cells)) (number_in roots) (up_to (length roots))

@@ -42,6 +42,14 @@ fn words_agree(w: usize, f: &[u8], entry: &[u8]) -> Option<bool>
     }
 }
 
+// Copies a part over an entry. As parameters the two are known to lie apart: read off the candidate, the copy would call memmove.
+fn copy_part(part: &[u8], entry: &mut [u8])
+    requires { length entry.old ≡ length part.now }
+    ensures { entry.new ≡ part.now }
+{
+    entry.copy_from_slice(part);
+}
+
 impl Candidate for Wide<'_> {
     ghost bytes = { λ c. c.w };
 
@@ -70,7 +78,7 @@ impl Candidate for Wide<'_> {
     }
 
     fn put(&self, entry: &mut [u8]) {
-        entry.copy_from_slice(self.part);
+        copy_part(self.part, entry);
     }
 
     ghost some_bytes = { λ c. c.some_bytes };

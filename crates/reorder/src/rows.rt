@@ -36,7 +36,9 @@ fn double(map: &mut [u16], count: usize, share: u16)
     }
 }
 
-// The drawn row behind each row under the order of the first n entries; zeros past the rows, and where n is too large.
+// The drawn row behind each row under the order of the first n entries; zeros past the rows, and where n is too large. Not inlined: its
+// array would stand on the stack twice for as long as the caller runs.
+#[inline(never)]
 pub fn row_map(order: [usize; VARIABLES], n: usize) -> [u16; ROWS]
     ensures { result ≡ row_map n order }
 {

@@ -1,11 +1,12 @@
 -- The lent counts: their sum one by one, and rows counted into them one after the other.
 -- Assumes nothing.
 use mathlib.Core.Path.{◌≡◌, refl, sym, ap, ◌∙◌}
+use mathlib.Core.Bool.{false}
 use mathlib.Core.List.{List, [], ◌∷◌, ◌++◌}
 use Prim.Native.Nat.{ℕ, zero, suc, ◌+◌, ◌-◌, ◌≤◌, ◌<◌}
 use native.Mathlib.Numerals.{add-one}
 use native.Mathlib.Omega.{arith}
-use borrow.Author.Tests.{eq-eqb, ne_eqb}
+use borrow.Author.Tests.{eq-eqb, ne_eqb, lt-leb}
 use lib.Dec.{T, eqb, ltb, leb, eqb→eq, ltb→lt, lt→ltb, leb→le, le→leb, nltb→le}
 use lib.ListN.{length, get_or, set, take, drop, length-set, get_or-eq_default}
 use Rattle.std.specs.List.{sum_by}
@@ -69,13 +70,17 @@ sum-first xs end k e =
     ap (sum_below (λ i. get_or (take k xs) i 0)) (length-take-le k xs (omega arith)) ∙ front
     ∙ omega (arith, rest, sum-add f k (end - k), ap (sum_below f) all)
 
--- whether so many more are not too many, where the sum stops at the largest number
-pub room_saturated : (records sum more all : ℕ) → sum ≡ records → all ≡ min (sum + more) 18446744073709551615
-    → leb all most_records ≡ leb (records + more) most_records
-room_saturated records sum more all e f =
-    both_ways (leb all most_records) (leb (records + more) most_records)
-    (λ t. le→leb (records + more) most_records (omega (arith, leb→le all most_records t)))
-    (λ t. le→leb all most_records (omega (arith, leb→le (records + more) most_records t)))
+-- whether so many more are not too many, by what the sum leaves
+
+pub room-none : (records sum more : ℕ) → sum ≡ records → most_records < sum → false ≡ leb (records + more) most_records
+room-none records sum more e h = sym (lt-leb (records + more) most_records (omega arith))
+
+pub room-left : (records sum more : ℕ) → sum ≡ records → sum ≤ most_records
+    → leb more (most_records - sum) ≡ leb (records + more) most_records
+room-left records sum more e h =
+    both_ways (leb more (most_records - sum)) (leb (records + more) most_records)
+    (λ t. le→leb (records + more) most_records (omega (arith, leb→le more (most_records - sum) t)))
+    (λ t. le→leb more (most_records - sum) (omega (arith, leb→le (records + more) most_records t)))
 
 -- one row more
 

@@ -30,7 +30,7 @@ pub(crate) fn has_room(counts: &[u32], end: usize, more: usize) -> bool
     ensures { result ≡ leb (sum_below (λ i. get_or counts.now i 0) end + more) most_records }
 {
     let sum = sum_of(&counts[..end.min(counts.len())]);
-    sum.saturating_add(more) <= RECORDS
+    sum <= RECORDS && more <= RECORDS - sum
 }
 
 // Counts each row of the list.

@@ -3,7 +3,7 @@
 -- Assumes nothing.
 use Rattle.std.specs.Prelude.{Result, Ok, Err, is_ok}
 use Rattle.std.proofs.lemmas.Result.{IfOk-at_ok}
-use mathlib.Core.Path.{◌≡◌, refl, sym, ap}
+use mathlib.Core.Path.{◌≡◌, refl, sym, ap, ◌∙◌}
 use mathlib.Core.Bool.{true, false, true≢false}
 use mathlib.Core.Logic.{◌⊎◌, inl, inr, ⊎_elim}
 use Prim.Native.Nat.{ℕ, ◌<◌}
@@ -50,6 +50,15 @@ number-few a = ⊎_elim (λ e. omega (arith, sym (ap number e))) (λ r. r.few) (
 -- an answer with the number 0 is a success with its value
 pub done-value : (a : Answer) → number a ≡ 0 → Ok (value a) ≡ a
 done-value a e = ⊎_elim (λ d. d) (λ r. absurd (omega (arith, r.numbered))) (by-variant a)
+
+-- an answer that is no success
+pub is-other : (a : Answer) → ((v : ℕ) → a ≡ Ok v → ⊥) → false ≡ done a
+is-other (Ok v) o = absurd (o v refl)
+is-other (Err r) o = refl
+
+-- a success is no refusal
+pub never_other {ℓ} : {X : Type ℓ} (a : Answer) (v : ℕ) (r : Refusal) → a ≡ Ok v → a ≡ Err r → X
+never_other a v r e k = absurd (true≢false (sym (ap is_ok e) ∙ ap is_ok k))
 
 -- a refusal comes before what follows, a success lets it follow
 pub refused-first : {A : Type 0} (a rest : Result A Refusal) → is_ok a ≡ false → unless_refused a rest ≡ a

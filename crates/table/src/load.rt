@@ -80,8 +80,8 @@ pub fn load(file: &[u8], values: &mut [u8], care: &mut [u8]) -> Outcome
             n,
             m,
             order,
-            count: 0,
             stage: Stage::Table,
+            ..unloaded()
         },
     })
 }

@@ -9,7 +9,7 @@ use diagram::{OUTPUTS, VARIABLES};
 impl State {
     // Whether n, m and the first n entries of the order keep the heading's rules.
     #[tactic(auto, unfolding(crate::specs::State::good_heading))]
-    fn good_heading(self) -> bool
+    pub fn good_heading(self) -> bool
         ensures { result ≡ good_heading self.n self.m (order_of self) }
     {
         self.n <= VARIABLES && (1..=OUTPUTS).contains(&self.m) && is_order(self.order, self.n)

@@ -16,3 +16,6 @@ returns-clause-answer c =
     let a = c.args in
     sym (levels-done a.state a.values.now a.care.now a.work.now c.in_ok-count_levels.field-0
     (sym c.count_levels.ensures.levels ∙ c.in_ok-count_levels.was)).1
+
+pub returns-clause-work : goal.returns-clause-work
+returns-clause-work c = c.count_levels.ensures.work

@@ -3,7 +3,7 @@
 use mir.Val.{bool_byte}
 use mathlib.Core.Path.{◌≡◌, refl}
 use mathlib.Core.Bool.{Bool, true, false}
-use Prim.Native.Nat.{ℕ, ◌+◌, ◌*◌, ◌%◌, ◌^◌, ◌<◌}
+use Prim.Native.Nat.{ℕ, suc, ◌+◌, ◌*◌, ◌%◌, ◌^◌, ◌<◌}
 use native.Mathlib.Numerals.{add-one}
 use native.Mathlib.Omega.{arith}
 use lib.Pow.{pow_mono, shl_exact}
@@ -25,3 +25,9 @@ module _ (f : ℕ → Bool) (j total : ℕ) (so_far : total ≡ packed j f) wher
 
     pub sum_fits : total + d * 2 ^ j % 2 ^ 64 < 2 ^ 64
     sum_fits = omega (arith, bit_added, packed_lt (j + 1) f, pow_mono {i = j + 1} {j = 64} (omega arith))
+
+-- one bit more fits a word, whichever bit it is
+pub bit-fits : (total j d : ℕ) (b : Bool) → total < 2 ^ j → j < 64 → d ≡ digit b → total + d * 2 ^ j % 2 ^ 64 < 2 ^ 64
+bit-fits total j d true t h e =
+    rw e (omega (arith, shl_exact {a = 1} 1 j 64 (omega arith) (omega arith), pow_mono {i = suc j} {j = 64} (omega arith)))
+bit-fits total j d false t h e = rw e (omega (arith, pow_mono {i = j} {j = 64} (omega arith)))

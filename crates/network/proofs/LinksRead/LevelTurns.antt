@@ -21,6 +21,14 @@ module _ (m : ℕ) (entries counts : List ℕ) where
       (made (L (suc p) k s).work (L (suc p) k s).cells (sum_below (λ q. get_or counts q 0) p))
       ∙ levels-work (suc p) k s
 
+  pub levels-cells : (p k : ℕ) (s : Made) → length (L p k s).cells ≡ length s.cells
+  unfolding levels_made
+  levels-cells p zero s = refl
+  levels-cells p (suc k) s =
+      level-cells p (level_at m entries (suc p)) (level_at m entries p) (get_or entries p 0)
+      (made (L (suc p) k s).work (L (suc p) k s).cells (sum_below (λ q. get_or counts q 0) p))
+      ∙ levels-cells (suc p) k s
+
   pub no-levels : (n : ℕ) (s : Made) → L n (n - n) s ≡ s
   unfolding levels_made
   no-levels n s = let z : n - n ≡ 0 = omega arith in rw z

@@ -1,4 +1,5 @@
 use mathlib.Core.Path.{◌∙◌}
+use Prim.Native.Nat.{◌<◌}
 use native.Mathlib.Omega.{arith}
 use lib.ListN.{get_or}
 use Rattle.lists.proofs.Written.Over.{over-next}
@@ -10,7 +11,8 @@ use Rattle.lent.proofs.rows.write_answers.Goals as goal
 pub overflow_cast-answers : goal.overflow_cast-answers
 overflow_cast-answers c =
     let w = c.args.network.now in
-    omega (arith, c.outputs.ensures, outputs-small w.state (get_or c.args.rows.now c.loop-i.i 0) w.roots.now w.cells.now w.evaluable.rooted.few)
+    let small : c.outputs.result < 65536 = rw c.outputs.ensures (outputs-small w.state _ w.roots.now w.cells.now w.evaluable.rooted.few) in
+    omega (arith, small)
 
 pub loop-i-preserved : goal.loop-i-preserved
 loop-i-preserved c =

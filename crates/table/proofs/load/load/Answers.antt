@@ -8,6 +8,7 @@ use Prim.Native.Nat.{ℕ, ◌≤◌}
 use native.Mathlib.Omega.{arith}
 use Rattle.lists.proofs.Bools.{to-T}
 use Rattle.diagram.specs.Networks.Bound.{most_variables, most_outputs}
+use Rattle.table.specs.declared.State.{State}
 use Rattle.table.specs.declared.Refusal.TheVariants.{ShortBuffer}
 use Rattle.table.specs.Answer.{Answer, done}
 use Rattle.table.specs.File.{stream_blocks, file_answer}
@@ -107,4 +108,5 @@ returns c =
     c.byte-n.result c.byte-m.result c.blocks_for-blocks.result c.read_order-order.result
     c.write_plane.new.plane c.write_plane-2.new.plane
     c.byte-n.ensures.0 c.byte-m.ensures.0 (the-blocks (goal.at.returns c).After-blocks_for-blocks) c.read_order-order.ensures
-    c.write_plane.ensures c.write_plane-2.ensures in record { outcome = all.0; values = all.1.0; care = all.1.1 }
+    c.write_plane.ensures c.write_plane-2.ensures in
+    let none = ap (λ (s : State). s.count) c.unloaded.ensures in record { outcome = rw none all.0; values = all.1.0; care = all.1.1 }

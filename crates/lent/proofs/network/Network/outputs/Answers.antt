@@ -6,7 +6,8 @@ use Rattle.lists.specs.Bits.{digit, packed}
 use Rattle.lent.specs.Inner.Cells.{level_bit}
 use Rattle.lent.specs.Lent.{lent_cells}
 use Rattle.lent.proofs.Tables.Gathered.{digit-byte, bit_added, sum_fits}
-use Rattle.lent.proofs.Outputs.{given_at, found_at, outputs-given}
+use Rattle.lent.proofs.Answered.{given_at}
+use Rattle.lent.proofs.Outputs.{found_at, outputs-given}
 use Rattle.lent.proofs.network.Network.outputs.Goals as goal
 use Rattle.lent.proofs.network.Network.outputs.Goals.{After-from}
 

@@ -4,7 +4,7 @@ use mathlib.Core.Path.{◌≡◌}
 use Rattle.lists.specs.Bits.{packed}
 use Rattle.lent.specs.Inner.Cells.{level_bit}
 use Rattle.lent.specs.Lent.{lent_cells}
-use Rattle.lent.proofs.Outputs.{given_at}
+use Rattle.lent.proofs.Answered.{given_at}
 use Rattle.lent.proofs.network.Network.outputs.Given as goal
 
 abbrev pub invariant-loop-j : goal.invariant-loop-j
