@@ -10,9 +10,15 @@ pub fn lent_number(numbers: &[u16], i: usize) -> usize
     numbers.get(i).copied().unwrap_or(0) as usize
 }
 
-// Whether every number is below a limit.
+// Whether every number is below a limit. A loop: of a chain the compiler makes slower steps.
 pub fn all_below(numbers: &[u16], limit: usize) -> bool
     ensures { result ≡ all (λ x. ltb x limit) numbers.now }
 {
-    numbers.iter().all(|x| (*x as usize) < limit)
+    for x in numbers {
+        let number = *x as usize;
+        if limit <= number {
+            return false;
+        }
+    }
+    true
 }
