@@ -1,5 +1,6 @@
-use mathlib.Core.Path.{◌∙◌}
-use Prim.Native.Nat.{◌<◌}
+use borrow.Author.Rules.{rules}
+use mathlib.Core.Path.{ap, ◌∙◌}
+use Prim.Native.Nat.{ℕ, ◌<◌}
 use native.Mathlib.Omega.{arith}
 use lib.ListN.{get_or}
 use Rattle.lists.proofs.Written.Over.{over-next}
@@ -18,7 +19,8 @@ pub loop-i-preserved : goal.loop-i-preserved
 loop-i-preserved c =
     let w = c.args.network.now in
     over-next (λ j. row_outputs w.state (get_or c.args.rows.now j 0) w.roots.now w.cells.now) c.args.answers.now c.loop-i.answers c.loop-i.i
-    c.outputs.result (omega arith) c.loop-i.invariant c.outputs.ensures
+    c.outputs.result (omega arith) c.loop-i.invariant
+    (c.outputs.ensures ∙ ap (λ (row : ℕ). row_outputs w.state row w.roots.now w.cells.now) (search rules))
 
 pub returns : goal.returns
 returns c =
